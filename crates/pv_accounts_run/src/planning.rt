@@ -17,7 +17,7 @@ use crate::owners::owners;
 use crate::paths::file_path;
 use pv_requests::RequestList;
 use pv_steps::Tree;
-use pv_sysusers::{AccountFiles, PathIds, PlanFault, Texts, plan};
+use pv_sysusers::{PathIds, PlanFault, Texts, plan};
 use pv_text::Messages;
 use std::alloc::Global;
 
@@ -79,11 +79,15 @@ fn planned_texts<T: Tree>(
     let group = file_path(alloc, b"group")?;
     let shadow = file_path(alloc, b"shadow")?;
     let gshadow = file_path(alloc, b"gshadow")?;
-    let files = AccountFiles {
-        passwd: text_at(tree, &passwd),
-        group: text_at(tree, &group),
-        shadow: text_at(tree, &shadow),
-        gshadow: own_text(tree, &gshadow),
-    };
-    plan(alloc, requests, &files, taken, day, messages)
+    plan(
+        alloc,
+        requests,
+        text_at(tree, &passwd),
+        text_at(tree, &group),
+        text_at(tree, &shadow),
+        own_text(tree, &gshadow),
+        taken,
+        day,
+        messages,
+    )
 }

@@ -326,7 +326,7 @@ module _ (now : ℕ) (line : Line) (adjustment : Adjustment) (e : action_of line
   turns_front : (q : Path) → has_staging q ≡ false → (paths : List Path) (t u : Files) → IsOnce q paths
       → Partway (adjustment_course now line adjustment) paths t u → IsFront (cond (is_reached paths q) adjustment.sets []) (object_states_of (places t) q) (object_states_of (places u) q)
   turns_front q plain [] t u once same = (zero, sym (object_states_of-same (places t) (places u) q (same q plain)))
-  turns_front q plain (p ∷ paths) t u once (inl way) = by (way q)
+  turns_front q plain (p ∷ paths) t u once (inl way) = by (way.each q)
     where
       by : IsPartSet (is_adjusted adjustment p q) adjustment.sets (object_states_of (places t) q) (object_states_of (places u) q) → IsFront (cond (is_reached (p ∷ paths) q) adjustment.sets []) (object_states_of (places t) q) (object_states_of (places u) q)
       by (IsPartSet.kept same) = (zero, same)
@@ -424,7 +424,7 @@ module _ (now : ℕ) (line : Line) (puts : Puts (action_of line)) (t : Files) wh
       → ((q : Path) → has_staging q ≡ false → IsAtWork now line t q (object_states_of (places t) q) (object_states_of (places u) q)) ⊎ Same (turn_after now line (path_in line.path) t) u
   way_work u (OnWay.before same) = inl (λ q plain. kept (sym (object_states_of-same (places t) (places u) q (same q plain))))
   way_work u (OnWay.midway free at) = inl (λ q plain. midway_work q (object_states_of (places t) q) (object_states_of (places u) q) (at q plain))
-  way_work u (OnWay.making_way subtree free put staged needed at) = inl (λ q plain. clearing_work subtree put q (object_states_of (places t) q) (object_states_of (places u) q) (at q plain))
+  way_work u (OnWay.making_way subtree free put staged needed stays at) = inl (λ q plain. clearing_work subtree put q (object_states_of (places t) q) (object_states_of (places u) q) (at q plain))
   way_work u (OnWay.whole same) = inr same
 
 -- ---- a line that makes something

@@ -30,3 +30,4 @@ pub mod StepLaws
 pub mod BesideLaws
 pub mod LeavingInput
 pub mod ReplacingLaws
+pub mod ToldLaws

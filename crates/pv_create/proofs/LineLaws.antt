@@ -10,7 +10,7 @@ use Rattle.pv_doing.proofs.CarryingLaws.{carried_none, Underway, underway_start,
 use Rattle.pv_doing.proofs.CourseLaws.{cut_start, none_left, partway_start, single_start}
 use Rattle.pv_lines.specs.declared.line.Line.{Line}
 use Rattle.pv_create.specs.Actions.{IsTurn}
-use Rattle.pv_create.specs.OnWay.{turn_course}
+use Rattle.pv_create.specs.OnWay.{plain_course, turn_course}
 use Rattle.pv_create.proofs.TurnLaws.{turn_start}
 use Rattle.pv_path.specs.Paths.{Path}
 use Rattle.pv_path.proofs.Tests.{next_item}
@@ -36,7 +36,7 @@ line_start now line t = partway_start (turn_course now line) (turn_start now lin
 pub line_begun : (now : ℕ) (line : Line) (t : Files) → LineCut now 0 line t [] []
 line_begun now line t =
     cut_start (turn_course now line) now
-    (λ x u. single_start (turn_course now line) (λ moment refused y v done new_messages work. work) now x u (turn_start now line x u)) (turns line t) t
+    (λ x u. record { at_work = single_start (plain_course now line) (λ moment refused y v done new_messages work. work) now x u (turn_start now line x u); told = λ none one. absurd (omega (arith, one)) }) (turns line t) t
 
 -- a call that gives up before anything is done
 pub line_none : {S : Type 0} (tree : Ghosts S) → Moves tree → (now : ℕ) (line : Line) (a : S) (old : List (List ℕ)) (r : Result Carried TreeFault) → IsErrAnd r (λ e. e ≡ Memory)

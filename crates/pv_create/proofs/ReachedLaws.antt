@@ -1,13 +1,19 @@
 -- Laws of adjusting what stands at each path of a list.
-use Rattle.std.specs.Prelude.{◌≡◌, ◌⊎◌, ℕ, ◌+◌, ◌≤◌, ◌<◌, Bool, true, false, cond, not, ◌&&◌, ◌||◌, List, [], ◌∷◌, ◌++◌, map, filter, fold, sum, length, take, get_or, Option, Some, None, is_some, option_map, Result, Ok, Err, OnOk, if◌then◌else◌}
+use Rattle.std.specs.Prelude.{◌≡◌, ◌⊎◌, ℕ, ◌+◌, ◌≤◌, ◌<◌, Bool, true, false, cond, not, ◌&&◌, ◌||◌, List, [], ◌∷◌, ◌++◌, map, filter, fold, sum, length, take, drop, get_or, Option, Some, None, is_some, option_map, Result, Ok, Err, OnOk, if◌then◌else◌}
 use Rattle.std.specs.FinMap as fin
 use Rattle.std.proofs.Common.{refl, sym, ap, subst, ◌∙◌, inl, inr, arith, zero, suc}
-use Rattle.std.proofs.lemmas.List.{take_all, take_more}
-use Rattle.std.specs.Prelude.{IsPermutation}
+use Rattle.std.proofs.lemmas.List.{get_or-drop, get_or-take, get_or_default, length-drop, length-take-le, take-append-drop, take_all, take_more}
+use Rattle.std.proofs.lemmas.List.Folds.{list_all-append}
+use Rattle.std.proofs.lemmas.List.MinMax.{ranks_by}
+use Rattle.std.proofs.lemmas.List.Sorted.{sorted_far, sum_by-IsPermutation}
+use Rattle.std.specs.declared.cmp.Ordering.TheVariants.{Less, Equal, Greater}
+use Rattle.std.specs.List.{list_all}
+use Rattle.std.specs.Ordering.{is_lt, ordering_reverse}
+use Rattle.std.specs.Prelude.{IsPermutation, IsSorted}
 use Rattle.std.proofs.lemmas.Grind.{fold-append}
-use Rattle.std.proofs.lemmas.List.Sorted.{sum_by-IsPermutation}
-use Rattle.pv_path.specs.Paths.{Path, same_path, is_prefix, has_staging}
-use Rattle.pv_path.proofs.PathLaws.{same_path-refl}
+use Rattle.pv_path.specs.Paths.{Path, path_cmp, path_total, same_path, is_prefix, has_staging}
+use Rattle.pv_path.proofs.PathLaws.{path_cmp-refl, same_path-refl}
+use Rattle.pv_path.proofs.Tests.{true_not_false}
 use Rattle.pv_steps.specs.declared.object.Object.{Object}
 use Rattle.pv_steps.specs.declared.step.Step.{Step}
 use Rattle.pv_steps.specs.declared.tree.Tree.{Ghosts}
@@ -17,7 +23,10 @@ use Rattle.pv_steps.specs.Steps.{on_at}
 use Rattle.pv_steps.specs.Trees.{Files, Places, places, IsPresent}
 use Rattle.pv_steps.proofs.ActingLaws.{Moves, well, acted_then, acted_weaken, acted_end}
 use Rattle.pv_steps.proofs.StepLaws.{same_files, places-tabulate, among_keys}
+use Rattle.pv_metadata.specs.declared.operation.Change.{Change}
+use Rattle.pv_metadata.specs.declared.operation.Guard.{Guard}
 use Rattle.pv_metadata.specs.declared.operation.Operation.{Operation}
+use Rattle.pv_metadata.specs.declared.operation.Operation.TheVariants.{Make, Renew, Erase, Apply}
 use Rattle.pv_metadata.specs.declared.object_state.ObjectState.{ObjectState}
 use Rattle.pv_metadata.specs.Dividing.{parts}
 use Rattle.pv_metadata.specs.SettingMetadata.{Lacks, GivesMetadata}
@@ -30,8 +39,11 @@ use Rattle.pv_table.specs.declared.action.Adjustment.{Adjustment}
 use Rattle.pv_table.specs.Created.{change_work, adjust_work}
 use Rattle.pv_table.specs.Effects.{become, is_adjusted, adjust_at}
 use Rattle.pv_create.specs.Adjusting.{Adjusting, GivesBytes, GivesSet}
-use Rattle.pv_create.specs.Reached.{AdjustingReached, AreReachedBelow, GivesReached, IsPartSet, IsReached}
+use Rattle.pv_create.specs.Reached.{AdjustingInOrder, AdjustingReached, AreReachedBelow, GivesReached, IsPartSet, IsReached}
+use Rattle.pv_create.specs.Sets.{AreSets, AtMostOne, SetsBytes, SetsMode, SetsOther, SetsOwners}
 use Rattle.pv_find.proofs.WholeLaws.{times-sum}
+use Rattle.pv_laws.proofs.Comparing.{become-object_state}
+use Rattle.pv_laws.proofs.Sets.{adjusted_none, is_adjustment}
 
 -- ---- what is left at each path
 
@@ -143,6 +155,88 @@ module _ (now : ℕ) (adjustment : Adjustment) (path : Path) (t : Files) where
   pub places-adjust_at : (q : Path) → places (adjust_at now adjustment path t) q ≡ touched_at q
   places-adjust_at q = places-tabulate (fin.keys t) touched_at q (λ some. among_keys t q ∙ sym (is_some-touched q) ∙ some)
 
+-- ---- in byte order
+
+-- a path of a list stands at a place of it
+place_in : (q : Path) (xs : List Path) → 1 ≤ times q xs → (j : ℕ) × ((j < length xs) × (get_or xs j q ≡ q))
+place_in q [] h = absurd (omega (arith, h))
+place_in q (x ∷ xs) h = elim (path_cases x q) [
+  | inl e ↦ (0, (omega arith, e))
+  | inr d ↦ (let rest : 1 ≤ times q xs = (let none = ap {B = ℕ} (λ b. cond b 1 0) d in omega (arith, h, none)) in
+      let found = place_in q xs rest in
+      (suc found.0, (omega (arith, found.1.0), found.1.1)))
+]
+
+module _ (paths : List Path) (sorted : IsSorted path_cmp paths) (i : ℕ) (at : Path) (lt : i < length paths) (is : at ≡ get_or paths i at) where
+  -- a path that comes before the one at a place stands before it in the list, and one that comes after it does not
+  less_before : (q : Path) → path_cmp q at ≡ Less → times q (drop i paths) ≡ 0
+  less_before q less = zero_or (times q (drop i paths)) (λ one. no (place_in q (drop i paths) one))
+    where
+      zero_or : (n : ℕ) → (1 ≤ n → ⊥) → n ≡ 0
+      zero_or zero f = refl
+      zero_or (suc n) f = absurd (f (omega arith))
+
+      no : (j : ℕ) × ((j < length (drop i paths)) × (get_or (drop i paths) j q ≡ q)) → ⊥
+      no (j, (within, e)) =
+          let long = length-drop i paths in
+          let there : get_or paths (i + j) q ≡ q = sym (get_or-drop i paths j q) ∙ e in
+          let here : get_or paths i q ≡ at = get_or_default paths i q at lt ∙ sym is in
+          let far = sorted_far (λ (x y : Path). is_lt (path_cmp x y)) (ranks_by path_total (λ (x : Path). x)) paths sorted i (i + j) q (omega arith) (omega (arith, within, long)) in
+          let same : is_lt (path_cmp q at) ≡ is_lt (path_cmp (get_or paths (i + j) q) (get_or paths i q)) = (λ k. is_lt (path_cmp (sym there k) (sym here k))) in
+          true_not_false (is_lt (path_cmp q at)) (ap is_lt less) (same ∙ far)
+
+  greater_after : (q : Path) → path_cmp q at ≡ Greater → times q (take i paths) ≡ 0
+  greater_after q greater = zero_or (times q (take i paths)) (λ one. no (place_in q (take i paths) one))
+    where
+      zero_or : (n : ℕ) → (1 ≤ n → ⊥) → n ≡ 0
+      zero_or zero f = refl
+      zero_or (suc n) f = absurd (f (omega arith))
+
+      less : path_cmp at q ≡ Less
+      less = path_total.antisymm at q ∙ ap ordering_reverse greater
+
+      no : (j : ℕ) × ((j < length (take i paths)) × (get_or (take i paths) j q ≡ q)) → ⊥
+      no (j, (within, e)) =
+          let long = length-take-le i paths (omega (arith, lt)) in
+          let there : get_or paths j q ≡ q = sym (get_or-take i paths j q (omega (arith, within, long))) ∙ e in
+          let here : get_or paths i q ≡ at = get_or_default paths i q at lt ∙ sym is in
+          let far = sorted_far (λ (x y : Path). is_lt (path_cmp x y)) (ranks_by path_total (λ (x : Path). x)) paths sorted j i q (omega (arith, within, long)) lt in
+          let same : is_lt (path_cmp at q) ≡ is_lt (path_cmp (get_or paths i q) (get_or paths j q)) = (λ k. is_lt (path_cmp (sym here k) (sym there k))) in
+          true_not_false (is_lt (path_cmp at q)) (ap is_lt less) (same ∙ far)
+
+-- nothing is adjusted yet
+pub order_start : (adjustment : Adjustment) (path : Path) (t u : Files) → ((q : Path) → object_states_of (places u) q ≡ object_states_of (places t) q) → AdjustingInOrder adjustment path t u
+order_start adjustment path t u same = record {
+  each = λ q. IsPartSet.kept (same q);
+  at = [];
+  before = λ q less. absurd (least q less);
+  after = λ q greater. same q;
+}
+  where
+    least : (q : Path) → path_cmp q [] ≡ Less → ⊥
+    least [] e = let no : Equal ≡ Less = e in cc
+    least (n ∷ q) e = let no : Greater ≡ Less = e in cc
+
+-- what sets make of an object, stamps aside
+adjusts_one : (is : Guard → Change → Type 0) (xs : List Operation) → AtMostOne is xs → list_all is_adjustment xs ≡ true
+adjusts_one is [] h = refl
+adjusts_one is (Apply guard change ∷ []) h = refl
+adjusts_one is (Make b ∷ []) h = absurd h
+adjusts_one is (Renew test b ∷ []) h = absurd h
+adjusts_one is (Erase ∷ []) h = absurd h
+adjusts_one is (x ∷ y ∷ xs) h = absurd h
+
+all_adjust : (sets : List Operation) → AreSets sets → list_all is_adjustment sets ≡ true
+all_adjust sets (AreSets.several bytes owners mode e one two three) =
+    ap (list_all is_adjustment) e
+    ∙ list_all-append is_adjustment bytes (owners ++ mode) ∙ ap (λ b. b && list_all is_adjustment (owners ++ mode)) (adjusts_one SetsBytes bytes one)
+    ∙ list_all-append is_adjustment owners mode ∙ ap (λ b. b && list_all is_adjustment mode) (adjusts_one SetsOwners owners two) ∙ adjusts_one SetsMode mode three
+all_adjust sets (AreSets.alone h) = adjusts_one SetsOther sets h
+
+adjusted_state : (now : ℕ) (sets : List Operation) → AreSets sets → (v : Option Object) → option_map object_state_of (option_map (become now sets) v) ≡ run sets (option_map object_state_of v)
+adjusted_state now sets are None = sym (adjusted_none sets (all_adjust sets are))
+adjusted_state now sets are (Some o) = become-object_state now sets (all_adjust sets are) o
+
 -- ---- the loop
 
 module _ (adjustment : Adjustment) (path : Path) (t : Files) (paths : List Path) (reached : IsReached adjustment path t paths) (now : ℕ) where
@@ -211,22 +305,55 @@ module _ (adjustment : Adjustment) (path : Path) (t : Files) (paths : List Path)
           moved : (b : Option ObjectState) → b ≡ object_states_of (places u) q → IsPartSet (is_adjusted adjustment path q) sets (object_states_of (places t) q) (object_states_of (places u) q) → IsPartSet (is_adjusted adjustment path q) sets (object_states_of (places t) q) b
           moved b same h = subst (λ b. IsPartSet (is_adjusted adjustment path q) sets (object_states_of (places t) q) b) (sym same) h
 
+      module _ (sorted : IsSorted path_cmp paths) (are : AreSets sets) where
+        -- what stands at another path is as it is when the object at this one is at work
+        beside : (w : Files) → Adjusting at sets u w → (q : Path) → same_path at q ≡ false → object_states_of (places w) q ≡ option_map object_state_of (each_at (become now sets) front (places t) q)
+        beside w h q d =
+            h.1 q ∙ ap (λ s. if s then run (take h.0 (parts sets)) (object_states_of (places u) q) else object_states_of (places u) q) d
+            ∙ ap (λ (p : Places). option_map object_state_of (p q)) here
+
+        order : AdjustingReached adjustment path t u → (w : Files) → Adjusting at sets u w → AdjustingInOrder adjustment path t w
+        order before w h = record {
+          each = way before w h;
+          at = at;
+          before = λ q less there is_reached.
+              let one : ◌≡◌ {A = ℕ} (cond (is_adjusted adjustment path q && is_some (places t q)) 1 0) 1 = (λ j. cond (is_reached j && there j) 1 0) in
+              let once : times q front ≡ 1 = done_before q less one in
+              beside w h q (other q (λ e. (let no : Equal ≡ Less = sym (path_cmp-refl at) ∙ ap (λ (x : Path). path_cmp x at) e ∙ less in cc)))
+              ∙ ap (option_map object_state_of) (each_at-one (become now sets) front (places t) q once) ∙ adjusted_state now sets are (places t q);
+          after = λ q greater.
+              beside w h q (other q (λ e. (let no : Equal ≡ Greater = sym (path_cmp-refl at) ∙ ap (λ (x : Path). path_cmp x at) e ∙ greater in cc)))
+              ∙ ap (option_map object_state_of) (each_at-none (become now sets) front (places t) q (greater_after paths sorted i at lt is q greater));
+        }
+          where
+            other : (q : Path) → (at ≡ q → ⊥) → same_path at q ≡ false
+            other q d = elim (path_cases at q) [
+              | inl e ↦ absurd (d e)
+              | inr f ↦ f
+            ]
+
+            done_before : (q : Path) → path_cmp q at ≡ Less → ◌≡◌ {A = ℕ} (cond (is_adjusted adjustment path q && is_some (places t q)) 1 0) 1 → times q front ≡ 1
+            done_before q less one =
+                let both = times-append q front (drop i paths) in
+                let whole : times q (front ++ drop i paths) ≡ times q paths = ap (times q) (take-append-drop i paths) in
+                omega (arith, both, whole, less_before paths sorted i at lt is q less, reached q, one)
+
       gives : (s : Step) → GivesSet at sets u s → GivesReached adjustment path t s
       gives s h = record { at = at; reached = stands.0; gives = gives_same at sets u t same_here s h }
 
       work_more : sum (map weight front) + change_work sets (places u at) ≡ sum (map weight (take (i + 1) paths))
       work_more = ap (λ v. sum (map weight front) + change_work sets v) same_here ∙ sym (sum-push weight front at) ∙ ap (λ xs. sum (map weight xs)) (sym more)
 
-      pub acted_more : {S : Type 0} (tree : Ghosts S) → Moves tree → (a b c : S) → tree.state a ≡ t → tree.state b ≡ u → (r : Result (Unit {0}) TreeFault)
-          → Acted tree (AdjustingReached adjustment path t) (GivesReached adjustment path t) (sum (map weight front)) now a b well
+      pub acted_more : IsSorted path_cmp paths → AreSets sets → {S : Type 0} (tree : Ghosts S) → Moves tree → (a b c : S) → tree.state a ≡ t → tree.state b ≡ u → (r : Result (Unit {0}) TreeFault)
+          → Acted tree (AdjustingInOrder adjustment path t) (GivesReached adjustment path t) (sum (map weight front)) now a b well
           → Acted tree (Adjusting at sets u) (GivesSet at sets u) (change_work sets (places u at)) now b c r
-          → Acted tree (AdjustingReached adjustment path t) (GivesReached adjustment path t) (sum (map weight (take (i + 1) paths))) now a c r
-      acted_more tree moves a b c is_t is_u r before last =
-          let reached_u : AdjustingReached adjustment path t u = subst (λ f. AdjustingReached adjustment path t f) is_u (acted_end tree (AdjustingReached adjustment path t) (GivesReached adjustment path t) before) in
-          subst (λ n. Acted tree (AdjustingReached adjustment path t) (GivesReached adjustment path t) n now a c r) work_more
-          (acted_then tree moves (AdjustingReached adjustment path t) (GivesReached adjustment path t) before
-          (acted_weaken tree (Adjusting at sets u) (AdjustingReached adjustment path t) (GivesSet at sets u) (GivesReached adjustment path t) (change_work sets (places u at)) (change_work sets (places u at))
-          (way reached_u) gives (omega arith) last))
+          → Acted tree (AdjustingInOrder adjustment path t) (GivesReached adjustment path t) (sum (map weight (take (i + 1) paths))) now a c r
+      acted_more sorted are tree moves a b c is_t is_u r before last =
+          let reached_u : AdjustingInOrder adjustment path t u = subst (λ f. AdjustingInOrder adjustment path t f) is_u (acted_end tree (AdjustingInOrder adjustment path t) (GivesReached adjustment path t) before) in
+          subst (λ n. Acted tree (AdjustingInOrder adjustment path t) (GivesReached adjustment path t) n now a c r) work_more
+          (acted_then tree moves (AdjustingInOrder adjustment path t) (GivesReached adjustment path t) before
+          (acted_weaken tree (Adjusting at sets u) (AdjustingInOrder adjustment path t) (GivesSet at sets u) (GivesReached adjustment path t) (change_work sets (places u at)) (change_work sets (places u at))
+          (order sorted are reached_u.each) gives (omega arith) last))
 
   -- ---- when all is done
 

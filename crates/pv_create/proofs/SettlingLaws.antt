@@ -2,7 +2,7 @@
 use Rattle.std.specs.Prelude.{◌≡◌, ℕ, Bool, true, false, List, Some, None, Result, Ok, Err, OnOk, IsErrAnd, if◌then◌else◌}
 use Rattle.std.proofs.Common.{refl, sym, ap, subst, inl, inr, ◌⊎◌}
 use Rattle.pv_create.specs.Adjusting.{Adjusting, GivesSet}
-use Rattle.pv_create.specs.Reached.{AdjustingReached, GivesReached, IsPartSet}
+use Rattle.pv_create.specs.Reached.{AdjustingInOrder, GivesReached}
 use Rattle.pv_metadata.specs.declared.operation.Operation.{Operation}
 use Rattle.pv_metadata.specs.Nodes.{object_states_of}
 use Rattle.pv_path.specs.Paths.{Path, same_path}
@@ -25,6 +25,7 @@ use Rattle.pv_table.specs.Turns.{Turn, view_of}
 use Rattle.pv_table.proofs.EffectLaws.{become_is}
 use Rattle.pv_create.specs.Actions.{adjustment_of}
 use Rattle.pv_walk.specs.Replacing.{Replacing}
+use Rattle.pv_create.proofs.ReachedLaws.{order_start}
 use Rattle.pv_create.specs.Turning.{IsTurnStep, Settles, Settling, IsSettleStep, Turning, settle_work, settled}
 use Rattle.pv_create.specs.Deciding.{meant}
 use Rattle.pv_create.specs.declared.deciding.Turn.{Turn as Answer}
@@ -39,7 +40,7 @@ adjust_is Idle adjustment e = absurd (let no : None ≡ Some adjustment = e in c
 module _ {S : Type 0} (tree : Ghosts S) (now : ℕ) (action : Action) (path : Path) (a b : S) (r : Result (Unit {0}) TreeFault) where
   -- by a line that only adjusts
   pub settles_reached : (answer : Answer) (adjustment : Adjustment) → adjustment_of action ≡ Some adjustment → OnOk r (tree.state b ≡ adjust_at now adjustment path (tree.state a))
-      → Acted tree (AdjustingReached adjustment path (tree.state a)) (GivesReached adjustment path (tree.state a)) (adjust_work adjustment path (tree.state a)) now a b r
+      → Acted tree (AdjustingInOrder adjustment path (tree.state a)) (GivesReached adjustment path (tree.state a)) (adjust_work adjustment path (tree.state a)) now a b r
       → Settles tree now action path (meant action (view_of (tree.state a)) answer) a b r
   settles_reached answer adjustment e done acted =
       subst (λ (d : Action). Settles tree now d path (meant d (view_of (tree.state a)) answer) a b r) (sym (adjust_is action adjustment e))
@@ -80,7 +81,7 @@ turning_start path Turn.Nothing t = λ q plain. refl
 settling_start : (action : Action) (path : Path) (turn : Turn) (t : Files) → Settling action path turn t t
 settling_start (Create making) path turn t = turning_start path turn t
 settling_start (Copy copying) path turn t = turning_start path turn t
-settling_start (Adjust adjustment) path turn t = λ q. IsPartSet.kept refl
+settling_start (Adjust adjustment) path turn t = order_start adjustment path t t (λ q. refl)
 settling_start Idle path turn t = turning_start path turn t
 
 module _ {S : Type 0} (tree : Ghosts S) (moves : Moves tree) (now : ℕ) (action : Action) (path : Path) (turn : Turn) (a : S) (r : Result (Unit {0}) TreeFault) where

@@ -3,7 +3,8 @@
 use Rattle.std.specs.Prelude.{◌≡◌, ℕ, ◌+◌, Bool, true, false, List, [], map, take, Option, Some, None, is_some, option_map, Result, Ok, if◌then◌else◌}
 use Rattle.std.proofs.Common.{refl, sym, ap, subst, ◌∙◌, inl, inr, ◌⊎◌, arith}
 use Rattle.pv_create.specs.Adjusting.{GivesSet}
-use Rattle.pv_create.specs.Reached.{AdjustingReached, GivesReached, IsPartSet}
+use Rattle.pv_create.specs.Reached.{AdjustingInOrder, GivesReached}
+use Rattle.pv_create.proofs.ReachedLaws.{order_start}
 use Rattle.pv_metadata.specs.declared.object_state.ObjectState.{ObjectState}
 use Rattle.pv_metadata.specs.declared.operation.Operation.{Operation}
 use Rattle.pv_metadata.specs.Dividing.{parts}
@@ -32,7 +33,7 @@ use Rattle.pv_table.specs.Saying.{found, texts, turn_messages, turn_texts}
 use Rattle.pv_table.specs.Turns.{Refused, Turn, decide, has_something, refused_at, view_of}
 use Rattle.pv_walk.specs.Copying.{Subtree, with_subtree}
 use Rattle.pv_walk.specs.Preparing.{IsPreparing, Preparing, parent_file}
-use Rattle.pv_walk.specs.Replacing.{CanReplace, Replacing}
+use Rattle.pv_walk.specs.Replacing.{AreDirectories, CanReplace, Replacing}
 use Rattle.pv_walk.specs.Staging.{new_object}
 use Rattle.pv_create.specs.OnWay.{turn_at, puts_parents, sets_at, IsMidway, IsClearing, OnWay, IsStepOf, TurnWay, IsStepAt, turn_course}
 use Rattle.pv_create.specs.Turning.{Readying, IsReadyStep, ready_work, prepare_work, Turning, IsTurnStep, settled, Settling, IsSettleStep, settle_work}
@@ -79,7 +80,8 @@ module _ (now : ℕ) (line : Line) (path : Path) (t : Files) (free : refused_at 
     pub turning_way : (w : Files) (turn : Turn) → turn_at now line path t ≡ turn → Turning path turn u w → OnWay now line path t w
     turning_way w (Turn.Put s) e (Replacing.before same) = still w same
     turning_way w (Turn.Put s) e (Replacing.making_way m) =
-        OnWay.making_way s free e m.staged (subst (λ (v : Files). CanReplace path s v → Same v w) (sym is) m.needed) (λ q plain. by q (before q plain) (m.parts q plain))
+        OnWay.making_way s free e m.staged (subst (λ (v : Files). CanReplace path s v → Same v w) (sym is) m.needed)
+        (subst (λ (v : Files). AreDirectories path s v → object_states (places w) path ≡ object_states (places v) path) (sym is) m.stays) (λ q plain. by q (before q plain) (m.parts q plain))
       where
         by : (q : Path) → IsPreparing path q (object_states (places t) q) (object_states (places u) q) → (object_states (places w) q ≡ object_states (places u) q) ⊎ ((is_prefix path q ≡ true) × IsAbsentIn (places w) q)
             → IsClearing now line path t q (object_states_of (places t) q) (object_states_of (places w) q)
@@ -145,7 +147,7 @@ turn_start now line path t = by (action_of line)
     by : (d : Action) → TurnWay d now line path t t
     by (Create making) = OnWay.before (λ q plain. refl)
     by (Copy copying) = OnWay.before (λ q plain. refl)
-    by (Adjust adjustment) = λ q. IsPartSet.kept refl
+    by (Adjust adjustment) = order_start adjustment path t t (λ q. refl)
     by Idle = OnWay.before (λ q plain. refl)
 
 module _ (now : ℕ) (line : Line) (path : Path) (action : Action) (asked : action_of line ≡ action) (t : Files) (free : refused_at line path (places t) ≡ None) where
@@ -188,7 +190,7 @@ module _ (now : ℕ) (line : Line) (path : Path) (action : Action) (asked : acti
         by : (d : Action) → action_of line ≡ d → has_something (places t) d ≡ true → Readying d path t w → TurnWay d now line path t w
         by (Create making) e some before = preparing_way now line path t free (ap (puts_parents (places t)) e) w before
         by (Copy copying) e some before = preparing_way now line path t free (ap (puts_parents (places t)) e ∙ some) w before
-        by (Adjust adjustment) e some same = λ q. IsPartSet.kept (ap (λ (v : Files). object_states_of (places v) q) same)
+        by (Adjust adjustment) e some same = order_start adjustment path t w (λ q. ap (λ (v : Files). object_states_of (places v) q) same)
         by Idle e some same = OnWay.before (λ q plain. ap (λ (v : Files). object_states (places v) q) (sym same))
 
     pub ready_step : (step : Step) → IsReadyStep action path t step → IsStepAt action now line path t step
@@ -236,7 +238,7 @@ module _ (now : ℕ) (line : Line) (path : Path) (action : Action) (asked : acti
               (λ operations q. ap (λ (d : Action). sets_at d (Turn.Become operations) path q) e)
               (λ s f q. ap (λ (v : Files). object_states (places v) q) (after ∙ ap (λ (v : Turn). turned now (Copy copying) path v u) (sym turn ∙ f)) ∙ put_object_states now (Copy copying) path u s (sym turn ∙ f) q)
               w (decide (Copy copying) (view_of u) path) turn next
-          by (Adjust adjustment) e some turn after same next = subst (λ (v : Files). AdjustingReached adjustment path v w) same next
+          by (Adjust adjustment) e some turn after same next = subst (λ (v : Files). AdjustingInOrder adjustment path v w) same next
           by Idle e some turn after same next = OnWay.before (subst (λ (v : Files). Same v w) same next)
 
       settle_step : Readying action path t u → (step : Step) → IsSettleStep action path (decide action (view_of u) path) u step → IsStepAt action now line path t step

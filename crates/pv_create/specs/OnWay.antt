@@ -1,6 +1,6 @@
 -- What a line may have left on its way at a path, stamps and staging names aside, and which steps it may do
 -- (tmpfiles.d(5)).
-use Rattle.std.specs.Prelude.{◌≡◌, ℕ, Bool, true, false, List, [], take, Option, Some, None, if◌then◌else◌}
+use Rattle.std.specs.Prelude.{◌≡◌, ℕ, ◌+◌, ◌≤◌, Bool, true, false, List, [], length, take, Option, Some, None, if◌then◌else◌}
 use Rattle.pv_metadata.specs.declared.object_state.ObjectState.{ObjectState}
 use Rattle.pv_metadata.specs.declared.operation.Operation.{Operation}
 use Rattle.pv_metadata.specs.Dividing.{parts}
@@ -10,12 +10,12 @@ use Rattle.pv_doing.specs.Courses.{Course, single}
 use Rattle.pv_lines.specs.declared.line.Line.{Line}
 use Rattle.pv_path.specs.Paths.{Path, same_path, is_prefix, has_staging}
 use Rattle.pv_steps.specs.declared.step.Step.{Step}
-use Rattle.pv_steps.specs.Same.{Same}
+use Rattle.pv_steps.specs.Same.{Same, object_states}
 use Rattle.pv_steps.specs.Trees.{Files, Places, places}
 use Rattle.pv_walk.specs.Preparing.{IsAbove, IsPrepareStep}
 use Rattle.pv_walk.specs.Putting.{IsPutStep}
 use Rattle.pv_walk.specs.Copying.{IsCopyStep, Subtree}
-use Rattle.pv_walk.specs.Replacing.{IsStaged, CanReplace}
+use Rattle.pv_walk.specs.Replacing.{IsStaged, CanReplace, AreDirectories}
 use Rattle.pv_table.specs.declared.action.Copying.{Copying}
 use Rattle.pv_table.specs.declared.action.Action.{Action}
 use Rattle.pv_table.specs.declared.action.Action.TheVariants.{Create, Copy, Adjust}
@@ -26,8 +26,9 @@ use Rattle.pv_table.specs.Effects.{is_adjusted, turn_after}
 use Rattle.pv_table.specs.Pointwise.{parent_object_state}
 use Rattle.pv_table.specs.Saying.{found}
 use Rattle.pv_table.specs.Turns.{Turn, view_of, has_something, decide, refused_at}
+use Rattle.pv_create.specs.Actions.{makes}
 use Rattle.pv_create.specs.Adjusting.{GivesSet}
-use Rattle.pv_create.specs.Reached.{AdjustingReached, GivesReached}
+use Rattle.pv_create.specs.Reached.{AdjustingInOrder, GivesReached}
 
 -- ---- what is done
 
@@ -64,7 +65,8 @@ pub data IsClearing (now : ℕ) (line : Line) (path : Path) (t : Files) (q : Pat
 
 -- on the way of a line at a path, at each path without a staging name: nothing is done yet; or it is not refused, and is
 -- at work; or what stood there makes way for what is put, which stands whole at its staging name, where one Rename cannot
--- replace it; or it is done, and what is put, with all below it, is there whole
+-- replace it, and a directory in the place of which a directory is put stays, whatever is in it; or it is done, and what is
+-- put, with all below it, is there whole
 pub data OnWay (now : ℕ) (line : Line) (path : Path) (t u : Files) : Type 0 where
   before : Same t u → OnWay now line path t u
   midway : refused_at line path (places t) ≡ None
@@ -72,6 +74,7 @@ pub data OnWay (now : ℕ) (line : Line) (path : Path) (t u : Files) : Type 0 wh
       → OnWay now line path t u
   making_way : (subtree : Subtree) → refused_at line path (places t) ≡ None → turn_at now line path t ≡ Turn.Put subtree → IsStaged path subtree u
       → (CanReplace path subtree (found now (action_of line) path t) → Same (found now (action_of line) path t) u)
+      → (AreDirectories path subtree (found now (action_of line) path t) → object_states (places u) path ≡ object_states (places (found now (action_of line) path t)) path)
       → ((q : Path) → has_staging q ≡ false → IsClearing now line path t q (object_states_of (places t) q) (object_states_of (places u) q))
       → OnWay now line path t u
   whole : Same (turn_after now line path t) u → OnWay now line path t u
@@ -93,7 +96,7 @@ pub data IsStepOf (now : ℕ) (line : Line) (path : Path) (t : Files) (step : St
 
 -- on the way, by what it asks for: one that adjusts what is there also at all that it reaches from the path
 abbrev pub TurnWay : Action → ℕ → Line → Path → Files → Files → Type 0
-TurnWay (Adjust adjustment) now line path t u = AdjustingReached adjustment path t u
+TurnWay (Adjust adjustment) now line path t u = AdjustingInOrder adjustment path t u
 TurnWay action now line path t u = OnWay now line path t u
 
 -- a step, by what it asks for
@@ -102,5 +105,14 @@ IsStepAt (Adjust adjustment) now line path t step = GivesReached adjustment path
 IsStepAt action now line path t step = IsStepOf now line path t step
 
 -- what it does, what it may have left on its way, and its steps
+abbrev pub plain_course : ℕ → Line → Course Path
+plain_course now line = single (by_turn now line) (TurnWay (action_of line) now line) (IsStepAt (action_of line) now line)
+
+-- where it was cut short, it was at work; one that makes nothing and copies nothing has said all that it says at the path
+-- before it asks for its first step
+pub record TurnCut (now : ℕ) (line : Line) (moment refused : ℕ) (path : Path) (t : Files) (done : List Step) (new_messages : List (List ℕ)) : Type 0 where
+  pub at_work : (plain_course now line).cut moment refused path t done new_messages
+  pub told : makes (action_of line) ≡ false → 1 ≤ length done + refused → new_messages ≡ (by_turn now line).says path t
+
 abbrev pub turn_course : ℕ → Line → Course Path
-turn_course now line = single (by_turn now line) (TurnWay (action_of line) now line) (IsStepAt (action_of line) now line)
+turn_course now line = record (plain_course now line) { cut = TurnCut now line }

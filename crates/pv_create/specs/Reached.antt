@@ -1,8 +1,9 @@
 -- Adjusting all that a line reaches from a path: each step on the way, and what each may have left (tmpfiles.d(5)).
 use Rattle.std.specs.Prelude.{◌≡◌, ℕ, Bool, true, cond, not, ◌&&◌, List, take, Option, is_some}
-use Rattle.pv_path.specs.Paths.{Path, has_staging}
+use Rattle.std.specs.declared.cmp.Ordering.TheVariants.{Less, Greater}
+use Rattle.pv_path.specs.Paths.{Path, path_cmp, has_staging}
 use Rattle.pv_steps.specs.declared.step.Step.{Step}
-use Rattle.pv_steps.specs.Trees.{Files, places}
+use Rattle.pv_steps.specs.Trees.{Files, places, IsPresent}
 use Rattle.pv_metadata.specs.declared.object_state.ObjectState.{ObjectState}
 use Rattle.pv_metadata.specs.declared.operation.Operation.{Operation}
 use Rattle.pv_metadata.specs.Dividing.{parts}
@@ -22,6 +23,14 @@ pub data IsPartSet (reached : Bool) (sets : List Operation) (old new : Option Ob
 -- and so at each path
 abbrev pub AdjustingReached : Adjustment → Path → Files → Files → Type 0
 AdjustingReached adjustment path t u = (q : Path) → IsPartSet (is_adjusted adjustment path q) adjustment.sets (object_states_of (places t) q) (object_states_of (places u) q)
+
+-- and in byte order, a directory before what lies below it: one object is at work; those before it that the line reaches, the
+-- path itself and what is below it, have all that is set; those after it are as they were
+pub record AdjustingInOrder (adjustment : Adjustment) (path : Path) (t u : Files) : Type 0 where
+  pub each : AdjustingReached adjustment path t u
+  pub at : Path
+  pub before : (q : Path) → path_cmp q at ≡ Less → IsPresent t q → is_adjusted adjustment path q ≡ true → object_states_of (places u) q ≡ run adjustment.sets (object_states_of (places t) q)
+  pub after : (q : Path) → path_cmp q at ≡ Greater → object_states_of (places u) q ≡ object_states_of (places t) q
 
 -- a step gives one of the objects that the line reaches a part of what it is to be
 pub record GivesReached (adjustment : Adjustment) (path : Path) (t : Files) (step : Step) : Type 0 where

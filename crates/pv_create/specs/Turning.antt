@@ -1,7 +1,7 @@
 -- What a line does at a path, step by step: what makes the path ready, and what is done there (tmpfiles.d(5)).
 use Rattle.std.specs.Prelude.{◌≡◌, ℕ, ◌+◌, ◌*◌, Result, OnOk}
 use Rattle.pv_create.specs.Adjusting.{Adjusting, GivesSet}
-use Rattle.pv_create.specs.Reached.{AdjustingReached, GivesReached}
+use Rattle.pv_create.specs.Reached.{AdjustingInOrder, GivesReached}
 use Rattle.pv_path.specs.Paths.{Path}
 use Rattle.pv_steps.specs.declared.step.Step.{Step}
 use Rattle.pv_steps.specs.declared.tree.Tree.{Ghosts}
@@ -68,7 +68,7 @@ settled now (Adjust adjustment) path turn t = adjust_at now adjustment path t
 settled now action path turn t = turned now action path turn t
 
 abbrev pub Settling : Action → Path → Turn → Files → Files → Type 0
-Settling (Adjust adjustment) path turn t u = AdjustingReached adjustment path t u
+Settling (Adjust adjustment) path turn t u = AdjustingInOrder adjustment path t u
 Settling action path turn t u = Turning path turn t u
 
 abbrev pub IsSettleStep : Action → Path → Turn → Files → Step → Type 0

@@ -16,7 +16,7 @@ ghost use Rattle.pv_table.specs.Effects.{turn_after};
 ghost use Rattle.pv_table.specs.Saying.{found};
 ghost use Rattle.pv_table.specs.Turns.{Turn};
 ghost use Rattle.pv_walk.specs.Copying.{Subtree};
-ghost use Rattle.pv_walk.specs.Replacing.{CanReplace};
+ghost use Rattle.pv_walk.specs.Replacing.{AreDirectories, CanReplace};
 ghost use Rattle.pv_table.specs.declared.reason.Reason.TheVariants as reason;
 ghost use Rattle.pv_table.specs.Active.{in_create_order};
 ghost use Rattle.pv_layers.specs.Places.{is_input};
@@ -48,6 +48,17 @@ pub fn what_one_rename_can_replace_is_never_absent()
     ensures { (now : ℕ) (line : LineValue) (path : Path) (t u : Files) (subtree : Subtree) → IsTree t → has_staging path ≡ false
         → puts_parents (places t) (action_of line) ≡ true → turn_at now line path t ≡ Turn.Put subtree
         → CanReplace path subtree (found now (action_of line) path t) → OnWay now line path t u
+        → (object_states_of (places u) path ≡ object_states_of (places t) path)
+        ⊎ (object_states_of (places u) path ≡ object_states_of (places (turn_after now line path t)) path) }
+{}
+
+/// Where a line makes a directory or copies one to a path at which a directory stands, the path has at each moment on the way
+/// of the line what stood there or what the line leaves there, timestamps aside, whatever is in the old directory: so the
+/// directory is never absent.
+pub fn a_directory_that_a_directory_replaces_is_never_absent()
+    ensures { (now : ℕ) (line : LineValue) (path : Path) (t u : Files) (subtree : Subtree) → IsTree t → has_staging path ≡ false
+        → puts_parents (places t) (action_of line) ≡ true → turn_at now line path t ≡ Turn.Put subtree
+        → AreDirectories path subtree (found now (action_of line) path t) → OnWay now line path t u
         → (object_states_of (places u) path ≡ object_states_of (places t) path)
         ⊎ (object_states_of (places u) path ≡ object_states_of (places (turn_after now line path t)) path) }
 {}

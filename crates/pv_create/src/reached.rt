@@ -5,7 +5,7 @@ ghost use Rattle.pv_steps.specs.Acting.{Acted};
 ghost use Rattle.pv_steps.specs.Trees.{IsPresent};
 ghost use Rattle.pv_table.specs.Created.{adjust_work};
 ghost use Rattle.pv_table.specs.Effects.{is_adjusted, adjust_at};
-ghost use Rattle.pv_create.specs.Reached.{AdjustingReached, AreReachedBelow, GivesReached, IsReached};
+ghost use Rattle.pv_create.specs.Reached.{AdjustingInOrder, AreReachedBelow, GivesReached, IsReached};
 ghost use Rattle.pv_create.specs.Sets.{AreSets};
 
 use crate::object::adjust;
@@ -27,7 +27,8 @@ pub(crate) fn adjust_reached<T: Tree>(
     requires present { IsPresent (T.state tree.old) path.now }
     requires sets { AreSets adjustment.now.sets }
     ensures ok { OnOk result (T.state tree.new ≡ adjust_at now adjustment.now path.now (T.state tree.old)) }
-    ensures acted { Acted T.Tree (AdjustingReached adjustment.now path.now (T.state tree.old))
+    // Whatever the answer, the objects before the one at work have all that is set, and those after it are as they were.
+    ensures acted { Acted T.Tree (AdjustingInOrder adjustment.now path.now (T.state tree.old))
         (GivesReached adjustment.now path.now (T.state tree.old))
         (adjust_work adjustment.now path.now (T.state tree.old)) now tree.old tree.new result }
 {
@@ -49,7 +50,7 @@ fn adjust_each<T: Tree>(
     requires present { IsPresent (T.state tree.old) path.now }
     requires sets { AreSets adjustment.now.sets }
     ensures ok { OnOk result (T.state tree.new ≡ adjust_at now adjustment.now path.now (T.state tree.old)) }
-    ensures acted { Acted T.Tree (AdjustingReached adjustment.now path.now (T.state tree.old))
+    ensures acted { Acted T.Tree (AdjustingInOrder adjustment.now path.now (T.state tree.old))
         (GivesReached adjustment.now path.now (T.state tree.old))
         (adjust_work adjustment.now path.now (T.state tree.old)) now tree.old tree.new result }
 {

@@ -1,6 +1,7 @@
 //! What a line does at a path that is ready.
-ghost use Rattle.std.specs.Prelude.{◌≡◌, ◌++◌, map, OnOk, OnErr};
+ghost use Rattle.std.specs.Prelude.{◌≡◌, ◌≤◌, ◌++◌, map, OnOk, OnErr};
 ghost use Rattle.pv_text.specs.GivenMessages.{MessagesPart, message_text_at};
+ghost use Rattle.pv_steps.specs.Acting.{asked};
 ghost use Rattle.pv_steps.specs.Trees.{IsTree};
 ghost use Rattle.pv_table.specs.declared.action.Action.{Action as ActionValue};
 ghost use Rattle.pv_table.specs.Saying.{turn_texts};
@@ -33,6 +34,10 @@ pub(crate) fn settle<T: Tree>(
         Settles T.Tree at.entry.now.now at.entry.now.action.now at.entry.now.path.now turn tree.old tree.new result }
     ensures new_messages { let turn = decide at.entry.now.action.now (view_of (T.state tree.old)) at.entry.now.path.now in
         OnOk result (messages.new ≡ messages.old ++ map (message_text_at at.entry.now.line.now.place) (turn_texts at.entry.now.path.now turn)) }
+    // What is said is said before the first step.
+    ensures told { let turn = decide at.entry.now.action.now (view_of (T.state tree.old)) at.entry.now.path.now in
+        1 ≤ asked result (T.steps tree.old) (T.steps tree.new)
+        → messages.new ≡ messages.old ++ map (message_text_at at.entry.now.line.now.place) (turn_texts at.entry.now.path.now turn) }
     ensures part { let turn = decide at.entry.now.action.now (view_of (T.state tree.old)) at.entry.now.path.now in
         MessagesPart (map (message_text_at at.entry.now.line.now.place) (turn_texts at.entry.now.path.now turn)) messages.old messages.new }
 {

@@ -5,7 +5,7 @@ ghost use Rattle.pv_doing.specs.Courses.{carried_of};
 /// The outcome of a phase: whether all could be carried out.
 #[derive(Clone, Copy)]
 pub enum Carried {
-    /// All was carried out, or left what stood there.
+    /// All was carried out, or left what stood there; a refusal that does not count is none.
     Whole,
     /// Something was refused, or could not be taken away.
     NotCarriedOut,

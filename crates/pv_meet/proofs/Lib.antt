@@ -1,3 +1,4 @@
+pub mod AlikeLaws
 pub mod Disjoint
 pub mod Expansions
 pub mod Beginnings

@@ -1,5 +1,5 @@
 -- Runs of bytes tell where each byte leads.
-use Rattle.std.proofs.Common.{◌≡◌, ◌≢◌, ℕ, ◌+◌, ◌<◌, ◌≤◌, inl, inr, Bool, true, false, not, take, ◌&&◌, ◌==◌, cond, List, [], ◌∷◌, ◌++◌, length, map, filter, nat_lt, Option, Some, None, option_map, refl, sym, ap, ◌∙◌, subst, arith, if◌then◌else◌}
+use Rattle.std.proofs.Common.{◌≡◌, ◌⊎◌, ℕ, ◌+◌, ◌<◌, ◌≤◌, inl, inr, Bool, true, false, not, take, ◌&&◌, ◌==◌, cond, List, [], ◌∷◌, ◌++◌, length, map, filter, nat_lt, Option, Some, None, option_map, refl, sym, ap, ◌∙◌, subst, arith, if◌then◌else◌}
 use Rattle.std.proofs.lemmas.List.{map-append, append_assoc, append-nil, take_at}
 use Rattle.std.proofs.lemmas.List.Elements.{filter-append, All-push, All-append, All-nil, All-cons, All-same, All-take, All-contains, Contains-push}
 use Rattle.std.proofs.lemmas.Bool.{cases_eq}
@@ -41,15 +41,6 @@ module _ (t : ℕ → Option ℕ) (places : ℕ) where
     inside = λ all. subst (AllInside places) (sym (append-nil old)) all;
   }
 
-  told_here : (n : ℕ) → told_below t (n + 1) n ≡ option_to_list (t n)
-  told_here n = let l : nat_lt n (n + 1) ≡ true = grind (arith, nat_tests) in ap (λ (x : Bool). if x then option_to_list (t n) else []) l
-
-  told_not_here : (n : ℕ) → told_below t n n ≡ []
-  told_not_here n = let l : nat_lt n n ≡ false = grind (arith, nat_tests) in ap (λ (x : Bool). if x then option_to_list (t n) else []) l
-
-  told_same : (n b : ℕ) → b ≢ n → told_below t (n + 1) b ≡ told_below t n b
-  told_same n b other = let l : nat_lt b (n + 1) ≡ nat_lt b n = grind (arith, nat_tests) in ap (λ (x : Bool). if x then option_to_list (t b) else []) l
-
   abbrev tells : Move → ℕ → List ℕ
   tells r b = targets (r ∷ []) b
 
@@ -59,82 +50,103 @@ module _ (t : ℕ → Option ℕ) (places : ℕ) where
   tells_no : (r : Move) (b : ℕ) → goes_by b r ≡ false → tells r b ≡ []
   tells_no r b e = ap (λ (x : Bool). map (λ (m : Move). m.to) (cond x (r ∷ []) [])) e
 
-  module _ (n : ℕ) (old moves : List Move) where
-    pub running_longer : (r : Move) → Running t places n old moves (Some r) → t n ≡ Some r.to → Running t places (n + 1) old moves (Some (record r { high = n }))
+  -- the same of the bytes from one number to another
+  module _ (n m : ℕ) (later : n ≤ m) (old moves : List Move) where
+    told_here : (b : ℕ) → n ≤ b → b ≤ m → told_below t (m + 1) b ≡ option_to_list (t b)
+    told_here b low high = let l : nat_lt b (m + 1) ≡ true = grind (arith, nat_tests) in ap (λ (x : Bool). if x then option_to_list (t b) else []) l
+
+    told_not_here : (b : ℕ) → n ≤ b → told_below t n b ≡ []
+    told_not_here b low = let l : nat_lt b n ≡ false = grind (arith, nat_tests) in ap (λ (x : Bool). if x then option_to_list (t b) else []) l
+
+    told_same : (b : ℕ) → ((b < n) ⊎ (m < b)) → told_below t (m + 1) b ≡ told_below t n b
+    told_same b (inl l) = let e : nat_lt b (m + 1) ≡ nat_lt b n = grind (arith, nat_tests) in ap (λ (x : Bool). if x then option_to_list (t b) else []) e
+    told_same b (inr l) = let e : nat_lt b (m + 1) ≡ nat_lt b n = grind (arith, nat_tests) in ap (λ (x : Bool). if x then option_to_list (t b) else []) e
+
+    -- where a byte is
+    place_of : (b : ℕ) → ((n ≤ b) × (b ≤ m)) ⊎ ((b < n) ⊎ (m < b))
+    place_of b = by (nat_lt b n) (nat_lt m b) refl refl
+      where
+        by : (x y : Bool) → nat_lt b n ≡ x → nat_lt m b ≡ y → ((n ≤ b) × (b ≤ m)) ⊎ ((b < n) ⊎ (m < b))
+        by true y e f = inr (inl (grind (arith, nat_tests)))
+        by false true e f = inr (inr (grind (arith, nat_tests)))
+        by false false e f = inl ((let l : n ≤ b = grind (arith, nat_tests) in l), (let l : b ≤ m = grind (arith, nat_tests) in l))
+
+    pub running_longer : (r : Move) → Running t places n old moves (Some r) → ((b : ℕ) → n ≤ b → b ≤ m → t b ≡ Some r.to) → Running t places (m + 1) old moves (Some (record r { high = m }))
     running_longer r was e = record {
-      stated = stated;
-      ends = λ s h. (let same : record r { high = n } ≡ s = cc in let high : n ≡ s.high = ap (λ (x : Move). x.high) same in let low : r.low ≡ s.low = ap (λ (x : Move). x.low) same in
+      stated = λ b. stated b (place_of b);
+      ends = λ s h. (let same : record r { high = m } ≡ s = cc in let high : m ≡ s.high = ap (λ (x : Move). x.high) same in let low : r.low ≡ s.low = ap (λ (x : Move). x.low) same in
           let w = was.ends r refl in (omega arith, (let a = w.0 in let b = w.1 in omega arith)));
       inside = λ all. inside_longer (was.inside all);
     }
       where
         longer : Move
-        longer = record r { high = n }
+        longer = record r { high = m }
 
-        stated : (b : ℕ) → targets (moves ++ record r { high = n } ∷ []) b ≡ targets old b ++ told_below t (n + 1) b
-        stated b = elim (cases_eq b n) [
-          | inl z ↦ (
-              let w = was.ends r refl in let w0 = w.0 in let w1 = w.1 in
-              let before : targets moves b ++ tells r b ≡ targets old b ++ told_below t n b = sym (targets-append moves (r ∷ []) b) ∙ was.stated b in
-              let shut : goes_by b r ≡ false = grind (arith, nat_tests) in
-              let open' : goes_by b (record r { high = n }) ≡ true = grind (arith, nat_tests) in
-              let same : targets moves b ≡ targets old b =
-              sym (append-nil (targets moves b)) ∙ ap (λ x. targets moves b ++ x) (sym (tells_no r b shut)) ∙ before ∙ ap (λ x. targets old b ++ x) (ap (told_below t n) z ∙ told_not_here n) ∙ append-nil (targets old b) in
-              targets-append moves (record r { high = n } ∷ []) b ∙ ap (λ x. targets moves b ++ x) (tells_yes (record r { high = n }) b open') ∙ ap (λ x. x ++ r.to ∷ []) same
-              ∙ ap (λ x. targets old b ++ x) (sym (ap (told_below t (n + 1)) z ∙ told_here n ∙ ap option_to_list e)))
-          | inr other ↦ (
-              let w = was.ends r refl in let w0 = w.0 in let w1 = w.1 in
-              let before : targets moves b ++ tells r b ≡ targets old b ++ told_below t n b = sym (targets-append moves (r ∷ []) b) ∙ was.stated b in
-              let same : goes_by b (record r { high = n }) ≡ goes_by b r = grind (arith, nat_tests) in
-              targets-append moves (record r { high = n } ∷ []) b ∙ ap (λ x. targets moves b ++ x) (ap (λ (x : Bool). map (λ (m : Move). m.to) (cond x (record r { high = n } ∷ []) [])) same ∙ by (goes_by b r)) ∙ before
-              ∙ ap (λ x. targets old b ++ x) (sym (told_same n b other)))
-        ]
+        before : (b : ℕ) → targets moves b ++ tells r b ≡ targets old b ++ told_below t n b
+        before b = sym (targets-append moves (r ∷ []) b) ∙ was.stated b
+
+        goes_same : (b : ℕ) → ((b < n) ⊎ (m < b)) → goes_by b (record r { high = m }) ≡ goes_by b r
+        goes_same b (inl l) = let w = was.ends r refl in let w0 = w.0 in let w1 = w.1 in grind (arith, nat_tests)
+        goes_same b (inr l) = let w = was.ends r refl in let w0 = w.0 in let w1 = w.1 in grind (arith, nat_tests)
+
+        stated : (b : ℕ) → (((n ≤ b) × (b ≤ m)) ⊎ ((b < n) ⊎ (m < b))) → targets (moves ++ record r { high = m } ∷ []) b ≡ targets old b ++ told_below t (m + 1) b
+        stated b (inl here) =
+            let low = here.0 in let high = here.1 in
+            let w = was.ends r refl in let w0 = w.0 in let w1 = w.1 in
+            let shut : goes_by b r ≡ false = grind (arith, nat_tests) in
+            let open' : goes_by b (record r { high = m }) ≡ true = grind (arith, nat_tests) in
+            let same : targets moves b ≡ targets old b =
+            sym (append-nil (targets moves b)) ∙ ap (λ x. targets moves b ++ x) (sym (tells_no r b shut)) ∙ before b ∙ ap (λ x. targets old b ++ x) (told_not_here b low) ∙ append-nil (targets old b) in
+            targets-append moves (record r { high = m } ∷ []) b ∙ ap (λ x. targets moves b ++ x) (tells_yes (record r { high = m }) b open') ∙ ap (λ x. x ++ r.to ∷ []) same
+            ∙ ap (λ x. targets old b ++ x) (sym (told_here b low high ∙ ap option_to_list (e b low high)))
+        stated b (inr other) =
+            targets-append moves (record r { high = m } ∷ []) b ∙ ap (λ x. targets moves b ++ x) (ap (λ (x : Bool). map (λ (m : Move). m.to) (cond x (record r { high = m } ∷ []) [])) (goes_same b other) ∙ by (goes_by b r)) ∙ before b
+            ∙ ap (λ x. targets old b ++ x) (sym (told_same b other))
           where
-            by : (x : Bool) → map (λ (m : Move). m.to) (cond x (record r { high = n } ∷ []) []) ≡ map (λ (m : Move). m.to) (cond x (r ∷ []) [])
+            by : (x : Bool) → map (λ (m : Move). m.to) (cond x (record r { high = m } ∷ []) []) ≡ map (λ (m : Move). m.to) (cond x (r ∷ []) [])
             by true = refl
             by false = refl
 
-        inside_longer : AllInside places (moves ++ r ∷ []) → AllInside places (moves ++ record r { high = n } ∷ [])
-        inside_longer all = All-push (λ (m : Move). m.to < places) moves (record r { high = n })
+        inside_longer : AllInside places (moves ++ r ∷ []) → AllInside places (moves ++ record r { high = m } ∷ [])
+        inside_longer all = All-push (λ (m : Move). m.to < places) moves (record r { high = m })
             (All-same (λ (m : Move). m.to < places) moves (take (length moves) (moves ++ r ∷ [])) (sym (take_at moves (r ∷ []) (length moves) refl)) (All-take (λ (m : Move). m.to < places) (length moves) (moves ++ r ∷ []) all))
             (All-contains (λ (m : Move). m.to < places) (moves ++ r ∷ []) r all (Contains-push moves r))
 
-    abbrev begun : ℕ → Option Move
-    begun m = option_map (λ to. record { low = m; high = m; to = to }) (t m)
+    abbrev begun : Option ℕ → Option Move
+    begun o = option_map (λ to. record { low = n; high = m; to = to }) o
 
-    pub running_fresh : (run : Option Move) → Running t places n old moves run → ((to : ℕ) → t n ≡ Some to → to < places) → Running t places (n + 1) old (moves ++ option_to_list run) (begun n)
-    running_fresh run was below = record {
-      stated = λ b. targets-append (moves ++ option_to_list run) (option_to_list (begun n)) b ∙ ap (λ x. x ++ targets (option_to_list (begun n)) b) (was.stated b)
-          ∙ append_assoc (targets old b) (told_below t n b) (targets (option_to_list (begun n)) b) ∙ ap (λ x. targets old b ++ x) (fresh b);
+    pub running_fresh : (run : Option Move) → Running t places n old moves run → ((b : ℕ) → n ≤ b → b ≤ m → t b ≡ t n) → ((to : ℕ) → t n ≡ Some to → to < places) → Running t places (m + 1) old (moves ++ option_to_list run) (begun (t n))
+    running_fresh run was alike below = record {
+      stated = λ b. targets-append (moves ++ option_to_list run) (option_to_list (begun (t n))) b ∙ ap (λ x. x ++ targets (option_to_list (begun (t n))) b) (was.stated b)
+          ∙ append_assoc (targets old b) (told_below t n b) (targets (option_to_list (begun (t n))) b) ∙ ap (λ x. targets old b ++ x) (fresh b (place_of b));
       ends = λ s h. ends (t n) s h;
-      inside = λ all. All-append (λ (m : Move). m.to < places) (moves ++ option_to_list run) (option_to_list (begun n)) (was.inside all) (inside (t n) below);
+      inside = λ all. All-append (λ (m : Move). m.to < places) (moves ++ option_to_list run) (option_to_list (begun (t n))) (was.inside all) (inside (t n) below);
     }
       where
-        here : (o : Option ℕ) → targets (option_to_list (option_map (λ to. record { low = n; high = n; to = to }) o)) n ≡ option_to_list o
-        here None = refl
-        here (Some to) = let r : Move = record { low = n; high = n; to = to } in let open' : goes_by n r ≡ true = grind (arith, nat_tests) in tells_yes r n open'
+        here : (o : Option ℕ) (b : ℕ) → n ≤ b → b ≤ m → targets (option_to_list (option_map (λ to. record { low = n; high = m; to = to }) o)) b ≡ option_to_list o
+        here None b low high = refl
+        here (Some to) b low high = let r : Move = record { low = n; high = m; to = to } in let open' : goes_by b r ≡ true = grind (arith, nat_tests) in tells_yes r b open'
 
-        there : (o : Option ℕ) (b : ℕ) → b ≢ n → targets (option_to_list (option_map (λ to. record { low = n; high = n; to = to }) o)) b ≡ []
+        there : (o : Option ℕ) (b : ℕ) → ((b < n) ⊎ (m < b)) → targets (option_to_list (option_map (λ to. record { low = n; high = m; to = to }) o)) b ≡ []
         there None b other = refl
-        there (Some to) b other = let r : Move = record { low = n; high = n; to = to } in let shut : goes_by b r ≡ false = grind (arith, nat_tests) in tells_no r b shut
+        there (Some to) b (inl l) = let r : Move = record { low = n; high = m; to = to } in let shut : goes_by b r ≡ false = grind (arith, nat_tests) in tells_no r b shut
+        there (Some to) b (inr l) = let r : Move = record { low = n; high = m; to = to } in let shut : goes_by b r ≡ false = grind (arith, nat_tests) in tells_no r b shut
 
-        fresh : (b : ℕ) → told_below t n b ++ targets (option_to_list (begun n)) b ≡ told_below t (n + 1) b
-        fresh b = elim (cases_eq b n) [
-          | inl z ↦ ap (λ x. told_below t n x ++ targets (option_to_list (begun n)) x) z ∙ ap (λ x. x ++ targets (option_to_list (begun n)) n) (told_not_here n) ∙ here (t n) ∙ sym (told_here n) ∙ ap (told_below t (n + 1)) (sym z)
-          | inr other ↦ ap (λ x. told_below t n b ++ x) (there (t n) b other) ∙ append-nil (told_below t n b) ∙ sym (told_same n b other)
-        ]
+        fresh : (b : ℕ) → (((n ≤ b) × (b ≤ m)) ⊎ ((b < n) ⊎ (m < b))) → told_below t n b ++ targets (option_to_list (begun (t n))) b ≡ told_below t (m + 1) b
+        fresh b (inl at) = ap (λ x. x ++ targets (option_to_list (begun (t n))) b) (told_not_here b at.0) ∙ here (t n) b at.0 at.1 ∙ ap option_to_list (sym (alike b at.0 at.1)) ∙ sym (told_here b at.0 at.1)
+        fresh b (inr other) = ap (λ x. told_below t n b ++ x) (there (t n) b other) ∙ append-nil (told_below t n b) ∙ sym (told_same b other)
 
-        ends : (o : Option ℕ) (s : Move) → option_map (λ to. record { low = n; high = n; to = to }) o ≡ Some s → (s.high + 1 ≡ n + 1) × (s.low ≤ s.high)
+        ends : (o : Option ℕ) (s : Move) → option_map (λ to. record { low = n; high = m; to = to }) o ≡ Some s → (s.high + 1 ≡ m + 1) × (s.low ≤ s.high)
         ends None s h = absurd (let differ : ◌≡◌ {A = Option Move} None (Some s) = h in cc)
         ends (Some to) s h =
-            let r : Move = record { low = n; high = n; to = to } in
+            let r : Move = record { low = n; high = m; to = to } in
             let same : r ≡ s = cc in
-            let high : n ≡ s.high = ap (λ (x : Move). x.high) same in
+            let high : m ≡ s.high = ap (λ (x : Move). x.high) same in
             let low : n ≡ s.low = ap (λ (x : Move). x.low) same in (omega arith, omega arith)
 
-        inside : (o : Option ℕ) → ((to : ℕ) → o ≡ Some to → to < places) → AllInside places (option_to_list (option_map (λ to. record { low = n; high = n; to = to }) o))
+        inside : (o : Option ℕ) → ((to : ℕ) → o ≡ Some to → to < places) → AllInside places (option_to_list (option_map (λ to. record { low = n; high = m; to = to }) o))
         inside None below = All-nil (λ (m : Move). m.to < places)
-        inside (Some to) below = All-cons (λ (m : Move). m.to < places) (record { low = n; high = n; to = to }) [] (below to refl) (All-nil (λ (m : Move). m.to < places))
+        inside (Some to) below = All-cons (λ (m : Move). m.to < places) (record { low = n; high = m; to = to }) [] (below to refl) (All-nil (λ (m : Move). m.to < places))
 
   -- after the last byte the moves tell where each byte leads
   pub running_ends : (old moves : List Move) (run : Option Move) → Running t places 256 old moves run → ((b : ℕ) → 256 ≤ b → t b ≡ None) → (b : ℕ) → targets (moves ++ option_to_list run) b ≡ targets old b ++ option_to_list (t b)

@@ -1,3 +1,4 @@
+pub mod Marked
 pub mod Machines
 pub mod Meeting
 pub mod Pairs

@@ -1,6 +1,7 @@
 //! The first path that two patterns share, found by machines that read the names of both.
 #![tactic(auto)]
 
+mod alike;
 mod apart;
 mod beginning;
 mod earlier;

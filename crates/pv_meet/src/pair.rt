@@ -6,6 +6,7 @@ ghost use Rattle.pv_meet.specs.Machines.{AllInside, reads, targets};
 ghost use Rattle.pv_meet.specs.declared.moves.Move.{Move};
 ghost use Rattle.pv_meet.specs.Pairs.{is_shared, number_of, spot_at, spots_after, target, takers, pair_machine};
 
+use crate::alike::{is_wild, last_beside, last_unmarked, written_in};
 use crate::beginning::Beginning;
 use crate::moves::{Move, MoveList, Moves};
 use crate::spot::{Spot, number_of, spot_at};
@@ -55,27 +56,47 @@ fn end_run(moves: &mut MoveList, run: Option<Move>) -> Result<(), AllocError>
     }
 }
 
-/// The move of a run of one byte, where it leads somewhere.
-fn run_of(byte: u8, to: Option<u32>) -> Option<Move>
-    ensures { result ≡ option_map (λ to. record { low = byte; high = byte; to = to }) to }
+/// The move of a run of bytes that lead to one place, if there is one.
+fn run_of(low: u8, high: u8, to: Option<u32>) -> Option<Move>
+    ensures { result ≡ option_map (λ to. record { low = low; high = high; to = to }) to }
 {
     match to {
-        Some(to) => Some(Move {
-            low: byte,
-            high: byte,
-            to,
-        }),
+        Some(to) => Some(Move { low, high, to }),
         None => None,
     }
 }
 
-/// The move of a run with the next byte too, where this leads to the same place.
-fn with_byte(run: Option<Move>, byte: u8, to: Option<u32>) -> Option<Move>
-    ensures longer { IfSome result (λ longer. (old : Move) × (run ≡ Some old) × (to ≡ Some old.to) × (longer ≡ record old { high = byte })) }
+/// The move of a run with the bytes after it up to another too, where these lead to the same place.
+fn with_bytes(run: Option<Move>, high: u8, to: Option<u32>) -> Option<Move>
+    ensures longer { IfSome result (λ longer. (old : Move) × (run ≡ Some old) × (to ≡ Some old.to) × (longer ≡ record old { high = high })) }
 {
     match (run, to) {
-        (Some(run), Some(to)) if run.to == to => Some(Move { high: byte, ..run }),
+        (Some(run), Some(to)) if run.to == to => Some(Move { high, ..run }),
         _ => None,
+    }
+}
+
+/// The last of the bytes from one on that surely lead where this one leads: where one of the two elements at a spot is a
+/// byte, all others lead nowhere; `*` and `?` tell few bytes apart.
+fn last_alike(components: Components<'_>, spot: Spot, byte: u8) -> u8
+    requires left { spot.left < length components.left.now }
+    requires right { spot.right < length components.right.now }
+    ensures later { byte ≤ result }
+    ensures alike { (b : ℕ) → byte ≤ b → b ≤ result
+        → target components.entry.left.now components.entry.right.now spot.begun spot.left spot.right b
+        ≡ target components.entry.left.now components.entry.right.now spot.begun spot.left spot.right byte }
+{
+    let left = &components.left[spot.left];
+    let right = &components.right[spot.right];
+    match written_in(left, right) {
+        Some(written) => last_beside(written, byte),
+        None => {
+            if is_wild(left) && is_wild(right) {
+                last_unmarked(byte)
+            } else {
+                byte
+            }
+        }
     }
 }
 
@@ -91,16 +112,19 @@ fn add_runs(moves: &mut MoveList, components: Components<'_>, spot: Spot) -> Res
         OnOk result (AllInside places moves.old → AllInside places moves.new) }
 {
     let mut run: Option<Move> = None;
-    for value in 1..256u16 {
-        let byte = value as u8;
+    let mut low: u16 = 1;
+    while low < 256 {
+        let byte = low as u8;
+        let high = last_alike(components, spot, byte);
         let to = target(components, spot, byte);
-        match with_byte(run, byte, to) {
+        match with_bytes(run, high, to) {
             Some(longer) => run = Some(longer),
             None => {
                 end_run(moves, run)?;
-                run = run_of(byte, to);
+                run = run_of(byte, high, to);
             }
         }
+        low = u16::from(high) + 1;
     }
     end_run(moves, run)
 }

@@ -128,7 +128,7 @@ fn start(alloc: Global, places: u32) -> Result<Vec<Option<Word>>, AllocError>
     requires { 1 ≤ places }
     ensures { IfOk result (λ found. found.items ≡ Some [] ∷ replicate (places - 1) None) }
 {
-    let mut found = Vec::new(alloc);
+    let mut found = Vec::with_capacity(alloc, places as usize)?;
     found.push(Some(Word::empty(alloc)))?;
     for _ in 1..places {
         found.push(None)?;
@@ -150,7 +150,7 @@ fn spelled(alloc: Global, word: &Word) -> Result<Bytes, AllocError>
 
 /// The least word of an automaton: the shortest that leads from its first place to an end, of those as long the first in the
 /// order of bytes `a` to `z`, `0` to `9`, `A` to `Z` and then by value, or nothing where no word does. `places` is
-/// the number of places. It asks for the moves of each place at most once.
+/// the number of places. It asks at most as many questions as there are places.
 pub fn least_word<M: Moves>(
     alloc: Global,
     machine: &mut M,

@@ -49,9 +49,10 @@ impl Word {
     pub(crate) fn followed_by(&self, rank: u16) -> Result<Word, AllocError>
         ensures { IfOk result (λ word. word ≡ self.now ++ rank ∷ []) }
     {
-        let mut word = self.copy()?;
-        word.ranks.push(rank)?;
-        Ok(word)
+        let mut ranks = Vec::with_capacity(*self.ranks.allocator(), self.ranks.len() + 1)?;
+        ranks.extend_from_slice(self.ranks.as_slice())?;
+        ranks.push(rank)?;
+        Ok(Word { ranks })
     }
 
     /// Whether the word comes after another.

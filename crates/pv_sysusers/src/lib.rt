@@ -21,4 +21,4 @@ pub use laws::{
 };
 pub use path_ids::{PathId, PathIds};
 pub use plan_fault::PlanFault;
-pub use planned::{AccountFiles, Texts, duplicates, plan};
+pub use planned::{Texts, duplicates, plan};

@@ -6,7 +6,7 @@ ghost use Rattle.pv_sysusers.specs.Deciding.{Lacks, UnlessMemory};
 ghost use Rattle.pv_sysusers.specs.Texts.{gshadow_text, membership_of};
 ghost use Rattle.pv_sysusers.specs.Lines.{lines_from, duplicate_messages};
 ghost use Rattle.pv_sysusers.specs.Plans.{plan_of, planned, texts_by};
-ghost use Rattle.pv_sysusers.specs.Planning.{AreNumbers, Misses, files_of, numbers_in};
+ghost use Rattle.pv_sysusers.specs.Planning.{AreNumbers, Misses, files_in, files_of, numbers_in};
 ghost use Rattle.pv_sysusers.specs.Shown.{IsIndexed, shown};
 
 use crate::groups::decided_groups;
@@ -38,11 +38,11 @@ pub struct Texts {
 
 /// The account files; /etc/gshadow may be absent.
 #[derive(Clone, Copy)]
-pub struct AccountFiles<'a> {
-    pub passwd: &'a [u8],
-    pub group: &'a [u8],
-    pub shadow: &'a [u8],
-    pub gshadow: Option<&'a [u8]>,
+struct AccountFiles<'a> {
+    passwd: &'a [u8],
+    group: &'a [u8],
+    shadow: &'a [u8],
+    gshadow: Option<&'a [u8]>,
 }
 
 /// The new groups and users with their numbers.
@@ -164,10 +164,44 @@ pub fn duplicates(alloc: Global, requests: &RequestList) -> Result<Messages, All
 }
 
 /// What a run makes of the account files, by its requests, the owners of the objects at their paths and the day: the
-/// new texts, or the name of the first user or group for which no number is left (sysusers.d(5)). What is said of
-/// lines that come again comes first, then what is said of numbers in use. Where memory runs out nothing or a front
-/// part of it is said.
+/// new texts, or the name of the first user or group for which no number is left (sysusers.d(5)). /etc/gshadow may be
+/// absent. What is said of lines that come again comes first, then what is said of numbers in use. Where memory runs out
+/// nothing or a front part of it is said.
 pub fn plan(
+    alloc: Global,
+    requests: &RequestList,
+    passwd: &[u8],
+    group: &[u8],
+    shadow: &[u8],
+    gshadow: Option<&[u8]>,
+    taken: &PathIds,
+    day: u64,
+    messages: &mut Messages,
+) -> Result<Texts, PlanFault>
+    ensures texts { let files = files_in passwd.now group.now shadow.now (option_map (λ file. file.now) gshadow.entry) in
+        let plan = planned requests.now taken.now files day in
+        IfOk result (λ texts. plan.texts ≡ Ok texts) }
+    ensures lacking { let files = files_in passwd.now group.now shadow.now (option_map (λ file. file.now) gshadow.entry) in
+        let plan = planned requests.now taken.now files day in
+        IfErr result (Misses plan.texts) }
+    ensures new_messages { let files = files_in passwd.now group.now shadow.now (option_map (λ file. file.now) gshadow.entry) in
+        let plan = planned requests.now taken.now files day in
+        UnlessMemory result (messages.new ≡ messages.old ++ plan.new_messages) }
+    ensures part { let files = files_in passwd.now group.now shadow.now (option_map (λ file. file.now) gshadow.entry) in
+        let plan = planned requests.now taken.now files day in
+        MessagesPart plan.new_messages messages.old messages.new }
+{
+    let files = AccountFiles {
+        passwd,
+        group,
+        shadow,
+        gshadow,
+    };
+    plan_files(alloc, requests, &files, taken, day, messages)
+}
+
+/// The plan of a run by the account files.
+fn plan_files(
     alloc: Global,
     requests: &RequestList,
     files: &AccountFiles<'_>,

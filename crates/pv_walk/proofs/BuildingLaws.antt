@@ -54,7 +54,7 @@ parent_below stage r n = ap parent_of (sym (append_assoc stage r (n ∷ []))) �
 some_none : {A : Type 0} (o : Option A) → is_some o ≡ true → o ≡ None → ⊥
 some_none o h e = let no : false ≡ true = sym (ap is_some e) ∙ h in cc
 
-kind_object : (now : ℕ) (o : Option ObjectState) → kind_of (option_map (object_of now) o) ≡ option_map (λ (b : ObjectState). b.body.kind) o
+pub kind_object : (now : ℕ) (o : Option ObjectState) → kind_of (option_map (object_of now) o) ≡ option_map (λ (b : ObjectState). b.body.kind) o
 kind_object now None = refl
 kind_object now (Some b) = refl
 

@@ -1,6 +1,6 @@
 -- Laws of copies: pieces of work that are done one after the other, and the copy that comes to its path.
-use Rattle.std.specs.Prelude.{◌≡◌, ◌≢◌, ℕ, ◌+◌, ◌-◌, ◌≤◌, Bool, true, false, cond, List, [], ◌∷◌, ◌++◌, filter, filter_map, Option, Some, None, is_some, option_map, Result, Ok}
-use Rattle.std.proofs.Common.{refl, sym, ap, subst, ◌∙◌, inl, inr, ◌⊎◌, arith, zero}
+use Rattle.std.specs.Prelude.{◌≡◌, ◌≢◌, ℕ, ◌+◌, ◌-◌, ◌≤◌, Bool, true, false, cond, List, [], ◌∷◌, ◌++◌, length, filter, filter_map, Option, Some, None, is_some, option_map, Result, Ok}
+use Rattle.std.proofs.Common.{refl, sym, ap, subst, ◌∙◌, inl, inr, ◌⊎◌, arith, zero, length-append}
 use Rattle.std.proofs.lemmas.List.{append-nil}
 use Rattle.std.specs.FinMap as fin
 use Rattle.std.proofs.lemmas.Bool.{cases_Bool}
@@ -23,7 +23,7 @@ use Rattle.pv_steps.specs.Acting.{Acted}
 use Rattle.pv_steps.specs.Objects.{object_state, changed, modified}
 use Rattle.pv_steps.specs.Same.{object_states}
 use Rattle.pv_steps.specs.Steps.{touched, moved, moved_at, carried}
-use Rattle.pv_steps.specs.Trees.{Files, Places, places, IsKindIn, IsAbsentIn, IsTree}
+use Rattle.pv_steps.specs.Trees.{Files, Places, places, kind_of, IsKindIn, IsAbsentIn, IsTree}
 use Rattle.pv_steps.proofs.ActingLaws.{Moves, well, acted_then, acted_weaken, acted_within, acted_end}
 use Rattle.pv_steps.proofs.StepLaws.{is_some-touched}
 use Rattle.pv_walk.specs.declared.listing.Piece.{Piece}
@@ -31,23 +31,46 @@ use Rattle.pv_walk.specs.declared.listing.Piece.TheVariants.{Make, Give}
 use Rattle.pv_walk.specs.declared.new_file.NewKind.{NewKind}
 use Rattle.pv_walk.specs.Copying.{copied_count, object_of, standing, with_subtree, GivesPart, IsStagingOf, IsCopyStep, Subtree}
 use Rattle.pv_walk.specs.Listing.{times}
-use Rattle.pv_walk.specs.Pieces.{CanDo, IsDone, GivesPiece, PieceWay, plain, piece_cost, cost_of, after_piece, built, IsDoable, AreDoable, made_of, IsPlan}
+use Rattle.pv_walk.specs.Pieces.{CanDo, IsDone, GivesPiece, PieceWay, plain, piece_cost, cost_of, after_piece, built, IsDoable, AreDoable, made_of, IsFilledBelow, IsPlan}
 use Rattle.pv_walk.specs.Replacing.{Replacing}
 use Rattle.pv_walk.specs.Removal.{Publishing}
 use Rattle.pv_walk.specs.Making.{held_object, BeginsNew}
-use Rattle.pv_walk.specs.Stages.{IsStage, IsAtStage, Staging}
+use Rattle.pv_walk.specs.Stages.{IsStage, IsAtStage, AreFilledFirst, Staging, made_directory, standing_at}
 use Rattle.pv_walk.specs.Staging.{HasTarget, IsPublishing}
-use Rattle.pv_walk.proofs.BuildingLaws.{IsBuilt, built_start, built_outside, object_states_built, built_end, not_empty, with_inside, with_outside, here_outside, here_else, room, made_built, stands_here, can_wear_here, worn_built, made_gives, metadata_gives_object_state}
+use Rattle.pv_walk.proofs.BuildingLaws.{IsBuilt, kind_object, built_start, built_outside, object_states_built, built_end, not_empty, with_inside, with_outside, here_outside, here_else, room, made_built, stands_here, can_wear_here, worn_built, made_gives, metadata_gives_object_state}
 use Rattle.pv_walk.proofs.CountLaws.{count_same, times-filter, times-keys, length-times, same_or_not}
 use Rattle.pv_walk.proofs.CopyListing.{rests_of, cost-push}
 use Rattle.pv_walk.proofs.ListingLaws.{cond-one, cond-zero}
 use Rattle.pv_walk.proofs.PlanLaws.{built-append, doable-last}
-use Rattle.pv_walk.proofs.PublishLaws.{staging_nonempty, staged_outside}
+use Rattle.pv_walk.proofs.PublishLaws.{staging_nonempty, staged_outside, path_outside}
 use Rattle.pv_walk.proofs.PuttingLaws.{none_under}
-use Rattle.pv_walk.proofs.ReplacingLaws.{yields_same}
-use Rattle.pv_walk.proofs.StageLaws.{begun_start, begun_stage, setting_metadata_stage}
+use Rattle.pv_walk.proofs.RemovalLaws.{no_same}
+use Rattle.pv_walk.proofs.ReplacingLaws.{kind_same, yields_same}
+use Rattle.pv_walk.proofs.StageLaws.{begun_start, begun_stage, begun_directory, held_directory, setting_metadata_stage, setting_metadata_kept}
 use Rattle.pv_walk.proofs.StagedLaws.{at_same}
 use Rattle.pv_path.proofs.Tests.{true_not_false}
+
+-- what is filled first is so when one place has changed: a directory there is as its Make step leaves it or is filled, and
+-- it has what it is to have, if it had it before
+filled_where : (s old now : Subtree) (rest : Path) → ((r : Path) → same_path rest r ≡ false → now r ≡ old r)
+    → ((found : ObjectState) → now rest ≡ Some found → found.body.kind ≡ Directory → (found ≡ made_directory) ⊎ IsFilledBelow s old rest)
+    → (old rest ≡ s rest → now rest ≡ s rest) → AreFilledFirst s old → AreFilledFirst s now
+filled_where s old now rest else_same here kept h r found is dir = elim (path_cases rest r) [
+  | inl e ↦ subst (λ (p : Path). (found ≡ made_directory) ⊎ IsFilledBelow s now p) e (at_place (here found (ap now e ∙ is) dir))
+  | inr d ↦ at_other (h r found (sym (else_same r d) ∙ is) dir)
+]
+  where
+    at_place : (found ≡ made_directory) ⊎ IsFilledBelow s old rest → (found ≡ made_directory) ⊎ IsFilledBelow s now rest
+    at_place (inl plain) = inl plain
+    at_place (inr full) = inr (λ n x. else_same (rest ++ n ∷ x) (no_same rest (rest ++ n ∷ x) (λ e. omega (arith, ap length {y = rest ++ n ∷ x} e, length-append rest (n ∷ x)))) ∙ full n x)
+
+    one : (q : Path) → old q ≡ s q → (rest ≡ q) ⊎ (same_path rest q ≡ false) → now q ≡ s q
+    one q same (inl e) = subst (λ (p : Path). now p ≡ s p) e (kept (ap old e ∙ same ∙ sym (ap s e)))
+    one q same (inr d) = else_same q d ∙ same
+
+    at_other : (found ≡ made_directory) ⊎ IsFilledBelow s old r → (found ≡ made_directory) ⊎ IsFilledBelow s now r
+    at_other (inl plain) = inl plain
+    at_other (inr full) = inr (λ n x. one (r ++ n ∷ x) (full n x) (path_cases rest (r ++ n ∷ x)))
 
 -- nothing of a piece is done
 pub way_start : (stage : Path) (p : Piece) (t : Files) → CanDo stage p t → PieceWay stage p t t
@@ -59,51 +82,73 @@ pub record Doing (now : ℕ) (stage : Path) (t : Files) (all left : List Piece) 
   pub objects : Path → Option ObjectState
   pub stands : IsBuilt now stage objects t u
   pub stages : (r : Path) → IsAtStage (made_of all r) (objects r)
+  pub filled : AreFilledFirst (made_of all) objects
   pub doable : AreDoable (made_of all) objects left
   pub whole : built left objects ≡ made_of all
 
 module _ (now : ℕ) (stage : Path) (nonempty : stage ≢ []) (t : Files) (parent : IsKindIn Directory (places t) (parent_of stage)) (all : List Piece) where
   pub doing_start : ((r : Path) → IsAbsentIn (places t) (stage ++ r)) → IsPlan all → Doing now stage t all all t
-  doing_start free plan = record { objects = λ q. None; stands = built_start now stage nonempty t parent free; stages = λ r. IsAtStage.none refl; doable = plan; whole = refl }
+  doing_start free plan = record { objects = λ q. None; stands = built_start now stage nonempty t parent free; stages = λ r. IsAtStage.none refl; filled = λ r found is dir. absurd (let no : None ≡ Some found = is in cc); doable = plan; whole = refl }
 
   -- while a piece is done nothing has changed elsewhere, stamps aside, and what stands is at its stage: but at its place, where a
   -- stage stands, all is as it was
-  way_staged : (left : List Piece) (u : Files) → Doing now stage t all left u → (rest : Path) (w : Files) → SameOutside (same_path (stage ++ rest)) u w → IsAtStage (made_of all rest) (object_states_of (places w) (stage ++ rest)) → Staging stage (made_of all) t w
-  way_staged left u e rest w h here = record {
+  -- a directory at its place has no more than its Make step gave it, or has all below it; and what stands there is not the
+  -- object that is to stand there unless it was so before
+  record IsPieceFilled (objects : Subtree) (rest : Path) (w : Files) : Type 0 where
+    here : (found : ObjectState) → standing_at stage w rest ≡ Some found → found.body.kind ≡ Directory → (found ≡ made_directory) ⊎ IsFilledBelow (made_of all) objects rest
+    kept : objects rest ≡ made_of all rest → standing_at stage w rest ≡ made_of all rest
+
+  way_staged : (left : List Piece) (u : Files) → (e : Doing now stage t all left u) → (rest : Path) (w : Files) → SameOutside (same_path (stage ++ rest)) u w → IsAtStage (made_of all rest) (object_states_of (places w) (stage ++ rest))
+      → IsPieceFilled e.objects rest w → Staging stage (made_of all) t w
+  way_staged left u e rest w h here full = record {
     outside = λ q out. h q (here_outside now stage nonempty t parent e.objects u e.stands rest q out) ∙ built_outside now stage nonempty t parent e.objects u e.stands q out;
-    stages = λ r. elim (path_cases rest r) [
-      | inl same ↦ subst (λ (p : Path). IsAtStage (made_of all p) (object_states_of (places w) (stage ++ p))) same here
-      | inr d ↦
-          at_same (e.stages r) (object_states_of (places w) (stage ++ r))
-          (object_states_of-same (places w) (places u) (stage ++ r) (h (stage ++ r) (here_else now stage nonempty t parent e.objects u e.stands rest r d)) ∙ object_states_built now stage e.objects t u e.stands r)
-    ];
+    stages = record {
+      each = λ r. elim (path_cases rest r) [
+        | inl same ↦ subst (λ (p : Path). IsAtStage (made_of all p) (object_states_of (places w) (stage ++ p))) same here
+        | inr d ↦ at_same (e.stages r) (object_states_of (places w) (stage ++ r)) (else_same r d)
+      ];
+      filled = filled_where (made_of all) e.objects (standing_at stage w) rest else_same full.here full.kept e.filled;
+    };
   }
+    where
+      else_same : (r : Path) → same_path rest r ≡ false → standing_at stage w r ≡ e.objects r
+      else_same r d =
+          object_states_of-same (places w) (places u) (stage ++ r) (h (stage ++ r) (here_else now stage nonempty t parent e.objects u e.stands rest r d)) ∙ object_states_built now stage e.objects t u e.stands r
 
   -- the last of those that are left is done next
   module _ (left : List Piece) (u : Files) where
     can_by : (p : Piece) (s : Path → Option ObjectState) → IsBuilt now stage s t u → IsDoable (made_of all) s p → CanDo stage p u
     can_by (Make rest what) s b (o, (there, (whole, (same, (none, place))))) =
         (not_empty now stage nonempty t parent rest, (room now stage nonempty t parent s u b rest none place, subst HasTarget (sym same) whole.target))
-    can_by (Give rest metadata) s b (o, (there, (whole, (same, here)))) = can_wear_here now stage nonempty t parent s u b rest o here metadata whole same
+    can_by (Give rest metadata) s b (o, (there, (whole, (same, (here, full))))) = can_wear_here now stage nonempty t parent s u b rest o here metadata whole same
 
     pub doing_can : (p : Piece) → Doing now stage t all (left ++ p ∷ []) u → CanDo stage p u
     doing_can p e = can_by p e.objects e.stands (doable-last (made_of all) e.objects left p e.doable).0
 
     stands_by : (p : Piece) (s : Path → Option ObjectState) (v : Files) → IsBuilt now stage s t u → IsDoable (made_of all) s p → IsDone now stage p u v → IsBuilt now stage (after_piece p s) t v
     stands_by (Make rest what) s v b (o, (there, (whole, (same, (none, place))))) h = made_built now stage nonempty t parent s u b rest none place what v h
-    stands_by (Give rest metadata) s v b (o, (there, (whole, (same, here)))) h = worn_built now stage nonempty t parent s u b rest o here metadata v h
+    stands_by (Give rest metadata) s v b (o, (there, (whole, (same, (here, full))))) h = worn_built now stage nonempty t parent s u b rest o here metadata v h
 
-    way_by : (p : Piece) → Doing now stage t all (left ++ p ∷ []) u → (s : Path → Option ObjectState) → IsBuilt now stage s t u → IsDoable (made_of all) s p → (w : Files) → PieceWay stage p u w → Staging stage (made_of all) t w
-    way_by (Make rest what) e s b (o, (there, (whole, (same, (none, place))))) w h =
+    way_by : (p : Piece) → (e : Doing now stage t all (left ++ p ∷ []) u) → IsBuilt now stage e.objects t u → IsDoable (made_of all) e.objects p → (w : Files) → PieceWay stage p u w → Staging stage (made_of all) t w
+    way_by (Make rest what) e b (o, (there, (whole, (same, (none, place))))) w h =
         way_staged (left ++ Make rest what ∷ []) u e rest w h.outside
         (subst (λ (v : Option ObjectState). IsAtStage v (object_states_of (places w) (stage ++ rest))) (sym there) (begun_stage (stage ++ rest) what o u w same h))
-    way_by (Give rest metadata) e s b (o, (there, (whole, (same, here)))) w h =
+        (record {
+          here = λ found is dir. inl (begun_directory (stage ++ rest) what u w found h is dir);
+          kept = λ before. absurd (let no : None ≡ Some o = sym none ∙ before ∙ there in cc);
+        })
+    way_by (Give rest metadata) e b (o, (there, (whole, (same, (here, full))))) w h =
         way_staged (left ++ Give rest metadata ∷ []) u e rest w (outside_setting_metadata (stage ++ rest) metadata u w h)
         (subst (λ (v : Option ObjectState). IsAtStage v (object_states_of (places w) (stage ++ rest))) (sym there)
-        (setting_metadata_stage (stage ++ rest) o metadata (object_of now (plain o)) u w same (stands_here now stage nonempty t parent s u b rest o here) refl h))
+        (setting_metadata_stage (stage ++ rest) o metadata (object_of now (plain o)) u w same (stands_here now stage nonempty t parent e.objects u b rest o here) refl h))
+        (record {
+          here = λ found is dir. inr full;
+          kept = λ before. let whole_is : plain o ≡ o = (let both : Some (plain o) ≡ Some o = sym here ∙ before ∙ there in cc) in
+              setting_metadata_kept (stage ++ rest) o metadata (object_of now (plain o)) u w same (stands_here now stage nonempty t parent e.objects u b rest o here) refl whole_is h ∙ sym there;
+        })
 
     pub doing_way : (p : Piece) → Doing now stage t all (left ++ p ∷ []) u → (w : Files) → PieceWay stage p u w → Staging stage (made_of all) t w
-    doing_way p e w h = way_by p e e.objects e.stands (doable-last (made_of all) e.objects left p e.doable).0 w h
+    doing_way p e w h = way_by p e e.stands (doable-last (made_of all) e.objects left p e.doable).0 w h
 
     -- what a piece leaves is at its stage
     stage_by : (p : Piece) (s : Path → Option ObjectState) → ((r : Path) → IsAtStage (made_of all r) (s r)) → IsDoable (made_of all) s p → (r : Path) → IsAtStage (made_of all r) (after_piece p s r)
@@ -113,7 +158,7 @@ module _ (now : ℕ) (stage : Path) (nonempty : stage ≢ []) (t : Files) (paren
           (IsStage.begun (inr (ap (λ (w : NewKind). object_state_of (held_object w 0)) same))))
       | inr d ↦ at_same (h r) (after_piece (Make rest what) s r) (ap (λ c. cond c (Some (object_state_of (held_object what 0))) (s r)) d)
     ]
-    stage_by (Give rest metadata) s h (o, (there, (whole, (same, here)))) r = elim (path_cases rest r) [
+    stage_by (Give rest metadata) s h (o, (there, (whole, (same, (here, full))))) r = elim (path_cases rest r) [
       | inl e ↦ subst (λ (q : Path). IsAtStage (made_of all q) (after_piece (Give rest metadata) s q)) e
           (IsAtStage.stage o (record (plain o) { metadata = metadata }) there
           (ap (λ c. cond c (option_map (λ (b : ObjectState). record b { metadata = metadata }) (s rest)) (s rest)) (same_path-refl rest) ∙ ap (option_map (λ (b : ObjectState). record b { metadata = metadata })) here)
@@ -121,16 +166,30 @@ module _ (now : ℕ) (stage : Path) (nonempty : stage ≢ []) (t : Files) (paren
       | inr d ↦ at_same (h r) (after_piece (Give rest metadata) s r) (ap (λ c. cond c (option_map (λ (b : ObjectState). record b { metadata = metadata }) (s r)) (s r)) d)
     ]
 
+    -- and filled first
+    filled_by : (p : Piece) (s : Path → Option ObjectState) → AreFilledFirst (made_of all) s → IsDoable (made_of all) s p → AreFilledFirst (made_of all) (after_piece p s)
+    filled_by (Make rest what) s h (o, (there, (whole, (same, (none, place))))) = filled_where (made_of all) s (after_piece (Make rest what) s) rest
+        (λ r d. ap (λ c. cond c (Some (object_state_of (held_object what 0))) (s r)) d)
+        (λ found is dir. inl (let one : object_state_of (held_object what 0) ≡ found = (let both : Some (object_state_of (held_object what 0)) ≡ Some found = sym (ap (λ c. cond c (Some (object_state_of (held_object what 0))) (s rest)) (same_path-refl rest)) ∙ is in cc) in
+        sym one ∙ held_directory what (ap (λ (b : ObjectState). b.body.kind) one ∙ dir)))
+        (λ before. absurd (let no : None ≡ Some o = sym none ∙ before ∙ there in cc)) h
+    filled_by (Give rest metadata) s h (o, (there, (whole, (same, (here, full))))) = filled_where (made_of all) s (after_piece (Give rest metadata) s) rest
+        (λ r d. ap (λ c. cond c (option_map (λ (b : ObjectState). record b { metadata = metadata }) (s r)) (s r)) d)
+        (λ found is dir. inr full)
+        (λ before. let whole_is : plain o ≡ o = (let both : Some (plain o) ≡ Some o = sym here ∙ before ∙ there in cc) in
+        ap (λ c. cond c (option_map (λ (b : ObjectState). record b { metadata = metadata }) (s rest)) (s rest)) (same_path-refl rest)
+        ∙ ap (option_map (λ (b : ObjectState). record b { metadata = metadata })) (before ∙ there) ∙ ap (λ (d : Metadata). Some (record o { metadata = d })) same ∙ sym there) h
+
     pub doing_next : (p : Piece) (v : Files) → Doing now stage t all (left ++ p ∷ []) u → IsDone now stage p u v → Doing now stage t all left v
     doing_next p v e h =
         let parts = doable-last (made_of all) e.objects left p e.doable in
-        record { objects = after_piece p e.objects; stands = stands_by p e.objects v e.stands parts.0 h; stages = stage_by p e.objects e.stages parts.0; doable = parts.1; whole = sym (built-append left (p ∷ []) e.objects) ∙ e.whole }
+        record { objects = after_piece p e.objects; stands = stands_by p e.objects v e.stands parts.0 h; stages = stage_by p e.objects e.stages parts.0; filled = filled_by p e.objects e.filled parts.0; doable = parts.1; whole = sym (built-append left (p ∷ []) e.objects) ∙ e.whole }
 
     gives_by : (p : Piece) (s : Path → Option ObjectState) (step : Step) → IsBuilt now stage s t u → IsDoable (made_of all) s p → GivesPiece stage p u step → GivesPart stage (made_of all) step
     gives_by (Make rest what) s step b (o, (there, (whole, (same, e)))) h =
         let gives = made_gives o whole (stage ++ rest) step (subst (λ (w : NewKind). BeginsNew (stage ++ rest) w step) same h) in
         record { rest = rest; object = o; is = there; gives = gives.0; needed = gives.1 }
-    gives_by (Give rest metadata) s step b (o, (there, (whole, (same, here)))) h =
+    gives_by (Give rest metadata) s step b (o, (there, (whole, (same, (here, full))))) h =
         let gives =
         metadata_gives_object_state o (stage ++ rest) now u (stands_here now stage nonempty t parent s u b rest o here) step (subst (λ (d : Metadata). GivesMetadata (stage ++ rest) d u step) same h) in
         record { rest = rest; object = o; is = there; gives = gives.0; needed = gives.1 }
@@ -288,6 +347,10 @@ module _ (now : ℕ) (path : Path) (nonempty : path ≢ []) (s : Path → Option
   pub copy_published : (u : Files) → places u ≡ with_subtree now (staging_of path) s (places t) → SameOutside (is_prefix (staging_of path)) t u → (w : Files) → Publishing now path u w → Replacing path s t w
   copy_published u is before w (inl c) = Replacing.making_way (record {
     staged = λ rest. object_states_of-same (places w) (places u) (staging_of path ++ rest) (c.pruned.outside (staging_of path ++ rest) (staged_outside path nonempty rest)) ∙ staged_object_state rest;
+    stays = λ both.
+        c.stays (ap kind_of (ap (places u) (sym (append-nil (staging_of path))) ∙ ap (λ (x : Places). x (staging_of path ++ [])) is ∙ with_inside now (staging_of path) (staging_nonempty path nonempty) t s []) ∙ kind_object now (s []) ∙ both.top)
+        (kind_same (places u path) (places t path) here_kept ∙ both.there)
+        ∙ here_kept;
     needed = λ y q plain. sym (c.needed (yields_same (with_subtree 0 (staging_of path) s (places t)) (places u) staged_same (staging_of path) path y) q ∙ kept q plain);
     parts = λ q plain. elim (cases_Bool (is_prefix path q)) [
       | inl e ↦ elim (c.pruned.within q e) [
@@ -298,6 +361,9 @@ module _ (now : ℕ) (path : Path) (nonempty : path ≢ []) (s : Path → Option
     ];
   })
     where
+      here_kept : object_states (places u) path ≡ object_states (places t) path
+      here_kept = before path (path_outside path nonempty)
+
       kept : (q : Path) → has_staging q ≡ false → object_states (places u) q ≡ object_states (places t) q
       kept q plain = before q (staging_outside (staging_of path) (has_staging-staging_of path nonempty) q plain)
 

@@ -16,7 +16,7 @@ use Rattle.pv_steps.specs.declared.node.Kind.{Kind}
 use Rattle.pv_steps.specs.declared.node.Kind.TheVariants.{Directory}
 use Rattle.pv_walk.specs.declared.listing.Piece.{Piece}
 use Rattle.pv_walk.specs.declared.listing.Piece.TheVariants.{Make, Give}
-use Rattle.pv_walk.specs.Pieces.{what_of, plain, after_piece, built, HasPlace, IsWhole, IsDoable, AreDoable}
+use Rattle.pv_walk.specs.Pieces.{what_of, plain, after_piece, built, HasPlace, IsFilledBelow, IsWhole, IsDoable, AreDoable}
 use Rattle.pv_path.proofs.Tests.{equal_of, true_not_false}
 
 abbrev pub Subtree : Type 0
@@ -275,6 +275,19 @@ module _ (subtree : Subtree) (names : Path → List (List ℕ)) (is : IsSubtree 
           by ([], e) = absurd (true_not_false (same_path r q) (ap (same_path r) (e ∙ append-nil r) ∙ same_path-refl r) d)
           by (n ∷ x, e) = at n x e (cases_Bool (is_some (subtree q)))
 
+      longer : (p : Path) (n : List ℕ) (x : Path) → same_path p (p ++ n ∷ x) ≡ false
+      longer p n x = elim (path_cases p (p ++ n ∷ x)) [
+        | inl e ↦ absurd (omega (arith, ap length {y = p ++ n ∷ x} e, length-append p (n ∷ x)))
+        | inr d ↦ d
+      ]
+
+      -- before it gets its metadata all below it is there
+      built-below : IsFilledBelow subtree (built (inner ++ Make r (what_of b.body) ∷ []) s) r
+      built-below n x =
+          let under = is_prefix-append r (n ∷ x) in
+          ap (λ (v : Subtree). v (r ++ n ∷ x)) built_first ∙ below (r ++ n ∷ x) (longer r n x) (inl under)
+          ∙ ap (λ c. cond c (subtree (r ++ n ∷ x)) (s (r ++ n ∷ x))) under
+
       at_all : (q : Path) → (r ≡ q) ⊎ (same_path r q ≡ false) → built pieces s q ≡ cond (is_prefix r q) (subtree q) (s q)
       at_all q (inl e) = subst (λ (p : Path). built pieces s p ≡ cond (is_prefix r p) (subtree p) (s p)) e
           (ap (λ c. cond c (option_map (λ (o : ObjectState). record o { metadata = b.metadata }) (built (inner ++ Make r (what_of b.body) ∷ []) s r)) (built (inner ++ Make r (what_of b.body) ∷ []) s r)) (same_path-refl r)
@@ -288,7 +301,7 @@ module _ (subtree : Subtree) (names : Path → List (List ℕ)) (is : IsSubtree 
       object_fills = record {
         doable = (
           doable-append subtree s inner (Make r (what_of b.body) ∷ []) (tt, (b, (there, (whole, (refl, (here_empty, place)))))) fills.doable,
-          (b, (there, (whole, (refl, built-here)))),
+          (b, (there, (whole, (refl, (built-here, built-below))))),
         );
         fills = λ i q. at_all q (path_cases r q) i;
       }

@@ -14,7 +14,7 @@ use Rattle.pv_steps.proofs.TreeLaws.{not_absent}
 use Rattle.pv_metadata.specs.Edits.{Pruned}
 use Rattle.pv_walk.specs.Removal.{is_below, Clearing}
 use Rattle.pv_walk.proofs.PuttingLaws.{none_below}
-use Rattle.pv_walk.proofs.RemovalLaws.{below_parts}
+use Rattle.pv_walk.proofs.RemovalLaws.{below_parts, not_below_itself}
 use Rattle.pv_walk.proofs.SweepLaws.{below_prefix, pruned-none, pruned-wider}
 
 -- ---- stamps aside
@@ -23,7 +23,7 @@ kind_object_state : (o : Option Object) → kind_of (option_map object_state o) 
 kind_object_state None = refl
 kind_object_state (Some x) = refl
 
-kind_same : (a b : Option Object) → option_map object_state a ≡ option_map object_state b → kind_of a ≡ kind_of b
+pub kind_same : (a b : Option Object) → option_map object_state a ≡ option_map object_state b → kind_of a ≡ kind_of b
 kind_same a b e = sym (kind_object_state a) ∙ ap kind_of e ∙ kind_object_state b
 
 absent_same : (a b : Option Object) → option_map object_state a ≡ option_map object_state b → a ≡ None → b ≡ None
@@ -47,7 +47,7 @@ module _ (x y : Places) (same : (q : Path) → object_states x q ≡ object_stat
 
 module _ (path : Path) (t : Files) where
   pub clearing_none : Clearing path t t
-  clearing_none = record { pruned = pruned-none (is_prefix path) t; needed = λ y q. refl }
+  clearing_none = record { pruned = pruned-none (is_prefix path) t; stays = λ x y. refl; needed = λ y q. refl }
 
   -- below an empty directory there is nothing that could go
   nothing_goes : IsTree t → IsEmptyIn (places t) path → (u : Files) → Pruned (is_below path) t u → (q : Path) → object_states (places u) q ≡ object_states (places t) q
@@ -66,7 +66,7 @@ module _ (path : Path) (t : Files) where
 
   -- all below a directory, in the place of which a directory comes
   pub clearing_below : IsTree t → IsKind Directory t path → (u : Files) → Pruned (is_below path) t u → Clearing path t u
-  clearing_below tree here u p = record { pruned = pruned-wider (is_below path) (is_prefix path) (below_prefix path) t u p; needed = by }
+  clearing_below tree here u p = record { pruned = pruned-wider (is_below path) (is_prefix path) (below_prefix path) t u p; stays = λ x y. p.outside path (not_below_itself path); needed = by }
     where
       by : Yields (places t) (staging_of path) path → (q : Path) → object_states (places u) q ≡ object_states (places t) q
       by (absent h) = absurd (let no : None ≡ Some Directory = sym (ap kind_of h) ∙ here in cc)
@@ -76,7 +76,7 @@ module _ (path : Path) (t : Files) where
   -- all at and below a path, where a directory comes in the place of another object, or the other way round
   pub clearing_taken : IsPresent t path → (IsKind Directory t (staging_of path) → IsKind Directory t path → ⊥) → ((IsKind Directory t (staging_of path) → ⊥) → (IsKind Directory t path → ⊥) → ⊥)
       → (u : Files) → Pruned (is_prefix path) t u → Clearing path t u
-  clearing_taken present both neither u p = record { pruned = p; needed = by }
+  clearing_taken present both neither u p = record { pruned = p; stays = λ x y. absurd (both x y); needed = by }
     where
       by : Yields (places t) (staging_of path) path → (q : Path) → object_states (places u) q ≡ object_states (places t) q
       by (absent h) = absurd (not_absent (places t) path present h)

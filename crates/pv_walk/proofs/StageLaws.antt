@@ -1,5 +1,5 @@
 -- Laws of new objects that are made at a path: what each step leaves, and that no other path changes.
-use Rattle.std.specs.Prelude.{◌≡◌, ◌≢◌, ℕ, ◌≤◌, ◌⊎◌, true, nat_le, fold, List, [], ◌∷◌, ◌++◌, length, Some, None, option_map, Result, Ok, Err, OnOk}
+use Rattle.std.specs.Prelude.{◌≡◌, ◌≢◌, ℕ, ◌≤◌, ◌⊎◌, true, false, nat_le, fold, List, [], ◌∷◌, ◌++◌, length, Some, None, option_map, Result, Ok, Err, OnOk}
 use Rattle.std.proofs.Common.{refl, sym, ap, subst, ◌∙◌, inl, inr, arith, zero, suc}
 use Rattle.std.specs.List.{list_all}
 use Rattle.std.proofs.Math.Seq.{take-nil}
@@ -8,8 +8,9 @@ use Rattle.std.proofs.lemmas.List.Folds.{list_all-append}
 use Rattle.std.proofs.lemmas.Bool.{and_parts}
 use Rattle.pv_path.specs.Paths.{Path, is_prefix, same_path, last_name, parent_of, staging_of}
 use Rattle.pv_path.proofs.PathLaws.{path_parts, parent_of-staging_of, not_prefix_not_same}
-use Rattle.pv_acl.specs.Parts.{special_of, mode_of, part_of_mode}
-use Rattle.pv_steps.specs.declared.node.Kind.TheVariants.{Directory, File}
+use Rattle.pv_acl.specs.Parts.{special_of, mode_of, part_of_mode, with_mode as part_with_mode}
+use Rattle.pv_acl.specs.declared.part.Part.{Part}
+use Rattle.pv_steps.specs.declared.node.Kind.TheVariants.{Directory, File, Link, Fifo, CharDevice, BlockDevice}
 use Rattle.pv_steps.specs.declared.object.Object.{Object}
 use Rattle.pv_steps.specs.declared.step.Step.{Step}
 use Rattle.pv_steps.specs.declared.step.Step.TheVariants.{Write}
@@ -34,7 +35,7 @@ use Rattle.pv_walk.specs.declared.new_file.NewKind.TheVariants as new
 use Rattle.pv_walk.specs.Staging.{new_kind, IsNewFile, HasTarget, GivesNew}
 use Rattle.pv_walk.specs.Making.{make_step, content_of, first_payload, first_object, held_object, IsBegun, Beginning, BeginsNew}
 use Rattle.pv_walk.specs.Pieces.{what_of}
-use Rattle.pv_walk.specs.Stages.{IsStage, IsAtStage}
+use Rattle.pv_walk.specs.Stages.{IsStage, IsAtStage, made_directory}
 
 -- ---- objects
 
@@ -216,16 +217,17 @@ first_object_state (suc (suc (suc (suc (suc k))))) new o =
 first_alike : (k : ℕ) (new : Metadata) (a b : Object) → object_state_of a ≡ object_state_of b → object_state_of (with_first_changes k new a) ≡ object_state_of (with_first_changes k new b)
 first_alike k new a b e = ap object_state_of (first_object_state k new a ∙ ap (with_first_changes k new) (object_state-same a b e) ∙ sym (first_object_state k new b))
 
+-- what stands at a path while it gets metadata
+metadata_here : (path : Path) (new : Metadata) (o : Object) (u v : Files) → places u path ≡ Some o → (h : SettingMetadata path new u v) → object_states_of (places v) path ≡ Some (object_state_of (with_first_changes h.0 new o))
+metadata_here path new o u v there h =
+    object_states_of-same (places v) (on_at path (with_first_changes h.0 new) (places u)) path (h.1 path)
+    ∙ ap (option_map object_state_of) (on_at-here path (with_first_changes h.0 new) (places u) ∙ ap (option_map (with_first_changes h.0 new)) there)
+
 -- an object with all it holds gets its metadata
 pub setting_metadata_stage : (path : Path) (b : ObjectState) (new : Metadata) (o : Object) (u v : Files) → new ≡ b.metadata → places u path ≡ Some o → object_state_of o ≡ object_state_of (held_object (what_of b.body) 0)
     → SettingMetadata path new u v → IsAtStage (Some b) (object_states_of (places v) path)
-setting_metadata_stage path b new o u v same there plain h = IsAtStage.stage b (object_state_of (with_first_changes h.0 new o)) refl here
+setting_metadata_stage path b new o u v same there plain h = IsAtStage.stage b (object_state_of (with_first_changes h.0 new o)) refl (metadata_here path new o u v there h)
     (IsStage.setting_metadata h.0 (first_alike h.0 new o (held_object (what_of b.body) 0) plain ∙ ap (λ d. object_state_of (with_first_changes h.0 d (held_object (what_of b.body) 0))) same))
-  where
-    here : object_states_of (places v) path ≡ Some (object_state_of (with_first_changes h.0 new o))
-    here =
-        object_states_of-same (places v) (on_at path (with_first_changes h.0 new) (places u)) path (h.1 path)
-        ∙ ap (option_map object_state_of) (on_at-here path (with_first_changes h.0 new) (places u) ∙ ap (option_map (with_first_changes h.0 new)) there)
 
 -- what is begun is at a stage
 pub begun_stage : (path : Path) (what : NewKind) (b : ObjectState) (t u : Files) → what ≡ what_of b.body → Beginning path what t u → IsAtStage (Some b) (object_states_of (places u) path)
@@ -234,6 +236,64 @@ begun_stage path what b t u same h = by h.here
     by : (object_states_of (places u) path ≡ None) ⊎ ((there : ObjectState) × ((object_states_of (places u) path ≡ Some there) × IsBegun what there)) → IsAtStage (Some b) (object_states_of (places u) path)
     by (inl none) = IsAtStage.none none
     by (inr (there, (is, begun))) = IsAtStage.stage b there refl is (IsStage.begun (subst (λ (w : NewKind). IsBegun w there) same begun))
+
+-- ---- directories
+
+-- what is first made as a directory, with all it holds, is as its Make step leaves it
+pub held_directory : (what : NewKind) → (object_state_of (held_object what 0)).body.kind ≡ Directory → object_state_of (held_object what 0) ≡ made_directory
+held_directory new.Directory e = refl
+held_directory (new.File content) e = let no : File ≡ Directory = e in cc
+held_directory (new.Link target) e = let no : Link ≡ Directory = e in cc
+held_directory new.Fifo e = let no : Fifo ≡ Directory = e in cc
+held_directory (new.Device true major minor) e = let no : BlockDevice ≡ Directory = e in cc
+held_directory (new.Device false major minor) e = let no : CharDevice ≡ Directory = e in cc
+
+-- so it is while it is made
+pub begun_directory : (path : Path) (what : NewKind) (t u : Files) (found : ObjectState) → Beginning path what t u → object_states_of (places u) path ≡ Some found → found.body.kind ≡ Directory → found ≡ made_directory
+begun_directory path what t u found h is dir = by h.here
+  where
+    first : (w : NewKind) → (object_state_of (first_object w 0)).body.kind ≡ Directory → object_state_of (first_object w 0) ≡ made_directory
+    first new.Directory e = refl
+    first (new.File content) e = let no : File ≡ Directory = e in cc
+    first (new.Link target) e = let no : Link ≡ Directory = e in cc
+    first new.Fifo e = let no : Fifo ≡ Directory = e in cc
+    first (new.Device true major minor) e = let no : BlockDevice ≡ Directory = e in cc
+    first (new.Device false major minor) e = let no : CharDevice ≡ Directory = e in cc
+
+    by : (object_states_of (places u) path ≡ None) ⊎ ((there : ObjectState) × ((object_states_of (places u) path ≡ Some there) × IsBegun what there)) → found ≡ made_directory
+    by (inl none) = absurd (let no : None ≡ Some found = sym none ∙ is in cc)
+    by (inr (begun_object, (e, begun))) =
+        let same : found ≡ begun_object = (let both : Some found ≡ Some begun_object = sym is ∙ e in cc) in
+        elim begun [
+          | inl b ↦ same ∙ b ∙ first what (ap (λ (x : ObjectState). x.body.kind) (sym (same ∙ b)) ∙ dir)
+          | inr b ↦ same ∙ b ∙ held_directory what (ap (λ (x : ObjectState). x.body.kind) (sym (same ∙ b)) ∙ dir)
+        ]
+
+-- an object keeps the metadata that it has already
+changes_kept : (k : ℕ) (o : Object) → part_with_mode (mode_of o.node.special o.node.acl.access) o.node.acl.access ≡ o.node.acl.access → object_state_of (with_first_changes k (object_state_of o).metadata o) ≡ object_state_of o
+changes_kept zero o e = refl
+changes_kept (suc zero) o e = refl
+changes_kept (suc (suc zero)) o e = ap (λ (part : Part). object_state_of (record o { node = record o.node { acl = record o.node.acl { access = part } } })) e
+changes_kept (suc (suc (suc zero))) o e = refl
+changes_kept (suc (suc (suc (suc zero)))) o e = refl
+changes_kept (suc (suc (suc (suc (suc k))))) o e =
+    ap (λ (changes : List (Object → Object)). object_state_of (fold (λ x change. change x) (with_metadata (object_state_of o).metadata o) changes)) (take-nil k)
+
+plain_kept : (k : ℕ) (what : NewKind) → object_state_of (with_first_changes k (object_state_of (held_object what 0)).metadata (held_object what 0)) ≡ object_state_of (held_object what 0)
+plain_kept k new.Directory = changes_kept k (held_object new.Directory 0) refl
+plain_kept k (new.File content) = changes_kept k (held_object (new.File content) 0) refl
+plain_kept k (new.Link target) = changes_kept k (held_object (new.Link target) 0) refl
+plain_kept k new.Fifo = changes_kept k (held_object new.Fifo 0) refl
+plain_kept k (new.Device block major minor) = changes_kept k (held_object (new.Device block major minor) 0) refl
+
+-- an object that is as it is to be once it has all it holds is so while it gets its metadata
+pub setting_metadata_kept : (path : Path) (b : ObjectState) (new : Metadata) (o : Object) (u v : Files) → new ≡ b.metadata → places u path ≡ Some o → object_state_of o ≡ object_state_of (held_object (what_of b.body) 0)
+    → object_state_of (held_object (what_of b.body) 0) ≡ b → SettingMetadata path new u v → object_states_of (places v) path ≡ Some b
+setting_metadata_kept path b new o u v same there plain whole h =
+    metadata_here path new o u v there h
+    ∙ ap Some (first_alike h.0 new o (held_object (what_of b.body) 0) plain
+    ∙ ap (λ (d : Metadata). object_state_of (with_first_changes h.0 d (held_object (what_of b.body) 0))) (same ∙ ap (λ (x : ObjectState). x.metadata) (sym whole))
+    ∙ plain_kept h.0 (what_of b.body) ∙ whole)
 
 -- ---- modes
 

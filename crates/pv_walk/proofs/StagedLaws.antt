@@ -1,5 +1,5 @@
 -- Laws of stages: what is made under a staging name stands there in stages alone, and so it does while it comes to its path.
-use Rattle.std.specs.Prelude.{◌≡◌, ◌≢◌, ℕ, ◌+◌, ◌≤◌, [], ◌++◌, Option, option_map, Result, Ok}
+use Rattle.std.specs.Prelude.{◌≡◌, ◌≢◌, ℕ, ◌+◌, ◌≤◌, [], ◌∷◌, ◌++◌, Option, Some, None, option_map, Result, Ok}
 use Rattle.std.proofs.Common.{refl, sym, ap, subst, ◌∙◌, inl, inr, arith}
 use Rattle.pv_path.specs.Paths.{Path, staging_of}
 use Rattle.pv_path.proofs.PathLaws.{is_prefix-append, rest_under-None}
@@ -16,7 +16,7 @@ use Rattle.pv_metadata.proofs.EditLaws.{moved_away}
 use Rattle.pv_metadata.proofs.OperationLaws.{object_states_of-same}
 use Rattle.pv_walk.specs.Copying.{Subtree}
 use Rattle.pv_walk.specs.Removal.{Publishing}
-use Rattle.pv_walk.specs.Stages.{IsAtStage, InStages, Staging}
+use Rattle.pv_walk.specs.Stages.{IsAtStage, AreFilledFirst, InStages, Staging, standing_at}
 use Rattle.pv_walk.specs.Staging.{IsPublishing}
 use Rattle.pv_walk.proofs.PublishLaws.{staged_outside}
 use Rattle.pv_walk.proofs.PuttingLaws.{none_under}
@@ -25,19 +25,38 @@ use Rattle.pv_walk.proofs.PuttingLaws.{none_under}
 pub at_same : {wanted old : Option ObjectState} → IsAtStage wanted old → (now : Option ObjectState) → now ≡ old → IsAtStage wanted now
 at_same {wanted = wanted} before now e = subst (λ (o : Option ObjectState). IsAtStage wanted o) (sym e) before
 
+-- where nothing stands, nothing is at a wrong stage
+pub none_staged : (path : Path) (s : Subtree) (u : Files) → ((rest : Path) → object_states_of (places u) (path ++ rest) ≡ None) → InStages path s u
+none_staged path s u none = record {
+  each = λ rest. IsAtStage.none (none rest);
+  filled = λ rest found is dir. absurd (let no : None ≡ Some found = sym (none rest) ∙ is in cc);
+}
+
+-- what is filled first is so wherever the same stands
+pub filled_same : (s old now : Subtree) → ((rest : Path) → now rest ≡ old rest) → AreFilledFirst s old → AreFilledFirst s now
+filled_same s old now same h rest found is dir = elim (h rest found (sym (same rest) ∙ is) dir) [
+  | inl plain ↦ inl plain
+  | inr full ↦ inr (λ name below. same (rest ++ name ∷ below) ∙ full name below)
+]
+
 -- nothing is made yet
 pub staged_start : (path : Path) (s : Subtree) (t : Files) → IsTree t → IsAbsentIn (places t) path → Staging path s t t
 staged_start path s t tree free = record {
   outside = λ q e. refl;
-  stages = λ rest. IsAtStage.none (ap (option_map object_state_of) (none_under (places t) tree path (path ++ rest) free (is_prefix-append path rest)));
+  stages = none_staged path s t (λ rest. ap (option_map object_state_of) (none_under (places t) tree path (path ++ rest) free (is_prefix-append path rest)));
 }
 
 module _ (path : Path) (nonempty : path ≢ []) (s : Subtree) where
   -- so it is while what stands at the path makes way, and then nothing is left
   pub published_stages : (now : ℕ) (u : Files) → InStages (staging_of path) s u → (w : Files) → Publishing now path u w → InStages (staging_of path) s w
-  published_stages now u h w (inl c) = λ rest.
-      at_same (h rest) (object_states_of (places w) (staging_of path ++ rest)) (object_states_of-same (places w) (places u) (staging_of path ++ rest) (c.pruned.outside (staging_of path ++ rest) (staged_outside path nonempty rest)))
-  published_stages now u h w (inr e) = λ rest. IsAtStage.none (object_states_of-same (places w) (moved now (staging_of path) path (places u)) (staging_of path ++ rest) (e (staging_of path ++ rest))
+  published_stages now u h w (inl c) = record {
+    each = λ rest. at_same (h.each rest) (standing_at (staging_of path) w rest) (same rest);
+    filled = filled_same s (standing_at (staging_of path) u) (standing_at (staging_of path) w) same h.filled;
+  }
+    where
+      same : (rest : Path) → standing_at (staging_of path) w rest ≡ standing_at (staging_of path) u rest
+      same rest = object_states_of-same (places w) (places u) (staging_of path ++ rest) (c.pruned.outside (staging_of path ++ rest) (staged_outside path nonempty rest))
+  published_stages now u h w (inr e) = none_staged (staging_of path) s w (λ rest. object_states_of-same (places w) (moved now (staging_of path) path (places u)) (staging_of path ++ rest) (e (staging_of path ++ rest))
       ∙ ap (option_map object_state_of) (moved_away now (staging_of path) path (places u) (staging_of path ++ rest) (rest_under-None path (staging_of path ++ rest) (staged_outside path nonempty rest)) (is_prefix-append (staging_of path) rest)))
 
   module _ {S : Type 0} (tree : Ghosts S) (Gives Puts : Step → Type 0) (first : (step : Step) → Gives step → Puts step) {now : ℕ} {a b : S} where

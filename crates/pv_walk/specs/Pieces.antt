@@ -91,10 +91,14 @@ built (piece ∷ pieces) s = after_piece piece (built pieces s)
 abbrev pub HasPlace : Subtree → Path → Type 0
 HasPlace s rest = (rest ≡ []) ⊎ ((is_some (s []) ≡ true) × (option_map (λ b. b.body.kind) (s (parent_of rest)) ≡ Some Directory))
 
+-- all below a place stands as in a subtree
+abbrev pub IsFilledBelow : Subtree → Subtree → Path → Type 0
+IsFilledBelow subtree s rest = (name : List ℕ) (below : Path) → s (rest ++ name ∷ below) ≡ subtree (rest ++ name ∷ below)
+
 -- a piece of a subtree that can be done where these objects stand
 abbrev pub IsDoable : Subtree → Subtree → Piece → Type 0
 IsDoable subtree s (Make rest what) = (b : ObjectState) × ((subtree rest ≡ Some b) × (IsWhole b × ((what ≡ what_of b.body) × ((s rest ≡ None) × HasPlace s rest))))
-IsDoable subtree s (Give rest metadata) = (b : ObjectState) × ((subtree rest ≡ Some b) × (IsWhole b × ((metadata ≡ b.metadata) × (s rest ≡ Some (plain b)))))
+IsDoable subtree s (Give rest metadata) = (b : ObjectState) × ((subtree rest ≡ Some b) × (IsWhole b × ((metadata ≡ b.metadata) × ((s rest ≡ Some (plain b)) × IsFilledBelow subtree s rest))))
 
 -- so each of them
 abbrev pub AreDoable : Subtree → Subtree → List Piece → Type 0

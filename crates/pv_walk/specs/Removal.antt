@@ -9,7 +9,8 @@ use Rattle.pv_steps.specs.declared.step.Step.{Step}
 use Rattle.pv_steps.specs.declared.step.Step.TheVariants.{Unlink, RemoveDir}
 use Rattle.pv_steps.specs.declared.object.Object.{Object}
 use Rattle.pv_steps.specs.Objects.{is_directory}
-use Rattle.pv_steps.specs.Trees.{Files, Places, places, kind_of, names_below}
+use Rattle.pv_steps.specs.declared.node.Kind.TheVariants.{Directory}
+use Rattle.pv_steps.specs.Trees.{Files, Places, places, kind_of, names_below, IsKind}
 use Rattle.pv_steps.specs.Steps.{Yields, gone, moved}
 use Rattle.pv_steps.specs.Same.{object_states}
 use Rattle.pv_metadata.specs.Edits.{Pruned}
@@ -49,9 +50,11 @@ without goes change files = λ q.
     else if loses_child goes files q then option_map change (places files q)
     else places files q
 
--- stamps aside, objects at and below a path may be gone, but not where one Rename from the staging name can replace them
+-- stamps aside, objects at and below a path may be gone, but not where one Rename from the staging name can replace them;
+-- a directory in the place of which a directory comes stays, whatever is in it, until that Rename
 pub record Clearing (path : Path) (t u : Files) : Type 0 where
   pub pruned : Pruned (is_prefix path) t u
+  pub stays : IsKind Directory t (staging_of path) → IsKind Directory t path → object_states (places u) path ≡ object_states (places t) path
   pub needed : Yields (places t) (staging_of path) path → (q : Path) → object_states (places u) q ≡ object_states (places t) q
 
 -- on the way, stamps aside: what stands at the path makes way, or what was staged for it has come to it

@@ -6,13 +6,13 @@ ghost use Rattle.pv_path.specs.Paths.{parent_of, has_staging, staging_of};
 ghost use Rattle.pv_steps.specs.declared.node.Kind.TheVariants.{Directory};
 ghost use Rattle.pv_steps.specs.Acting.{Acted};
 ghost use Rattle.pv_steps.specs.Trees.{places, IsKind, IsAbsentIn, IsPresent};
-ghost use Rattle.pv_walk.specs.Copying.{copy_from, copied_count, topped, with_subtree, IsCopyStep, IsTopNode};
+ghost use Rattle.pv_walk.specs.Copying.{copy_from, copied_count, topped, with_subtree, IsStagingOf, IsCopyStep, IsTopNode};
 ghost use Rattle.pv_walk.specs.Replacing.{Replacing};
-ghost use Rattle.pv_walk.specs.Stages.{InStages};
-ghost use Rattle.pv_walk.specs.Staging.{can_stage, most_new};
+ghost use Rattle.pv_walk.specs.Stages.{InStages, Staging};
+ghost use Rattle.pv_walk.specs.Staging.{can_stage, most_staged, most_new};
 
 use crate::listing::pieces_of;
-use crate::subtree::put_subtree;
+use crate::subtree::{put_subtree, stage_subtree};
 use pv_path::TreePath;
 use pv_steps::{Tree, TreeFault};
 use std::alloc::Global;
@@ -26,6 +26,36 @@ pub struct TopNode {
     pub uid: Option<u32>,
     /// The owning group, at most 4294967294, where one is given.
     pub gid: Option<u32>,
+}
+
+/// Makes a copy of what stands at and below a source under the staging name of a path, staging names left out: each
+/// object with all it has, all four timestamps now, and the top with what it gets. A directory gets its owners and its
+/// mode once all below it is there. What there is to copy is listed before the first step. After a fault some of the
+/// steps may be done; nothing but the staging name and what is below it has changed.
+pub fn stage_copy<T: Tree>(
+    alloc: Global,
+    tree: &mut T,
+    source: &TreePath,
+    path: &TreePath,
+    top: &TopNode,
+    now: u64,
+) -> Result<(), TreeFault>
+    requires not_root { path.now ≢ [] }
+    requires short { can_stage path.now ≡ true }
+    requires parent { IsKind Directory (T.state tree.old) (parent_of path.now) }
+    requires free { IsAbsentIn (places (T.state tree.old)) (staging_of path.now) }
+    requires source { IsPresent (T.state tree.old) source.now }
+    requires top { IsTopNode top.now }
+    ensures ok { OnOk result (places (T.state tree.new)
+        ≡ with_subtree now (staging_of path.now) (copy_from (topped top.now) source.now (object_states_of (places (T.state tree.old))))
+        (places (T.state tree.old))) }
+    // Whatever the answer, nothing stands under the staging name but stages of the copy, and nothing else has changed.
+    ensures acted { let subtree = copy_from (topped top.now) source.now (object_states_of (places (T.state tree.old))) in
+        Acted T.Tree (Staging (staging_of path.now) subtree (T.state tree.old)) (IsStagingOf path.now subtree)
+        (most_staged * copied_count subtree source.now (T.state tree.old)) now tree.old tree.new result }
+{
+    let pieces = pieces_of(alloc, tree, source, top)?;
+    stage_subtree(alloc, tree, path, pieces, now)
 }
 
 /// Puts a copy of what stands at and below a source at a path in a directory, in the place of all that stands at and

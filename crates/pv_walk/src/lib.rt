@@ -13,7 +13,7 @@ mod subtree;
 mod sweeping;
 mod walking;
 
-pub use copying::{TopNode, copy_over};
+pub use copying::{TopNode, copy_over, stage_copy};
 pub use listing::topped;
 pub use new_file::{NewFile, NewKind, new_object_state};
 pub use preparing::prepare;

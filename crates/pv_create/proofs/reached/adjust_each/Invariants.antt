@@ -5,13 +5,13 @@ use Rattle.pv_steps.specs.Trees.{places}
 use Rattle.pv_steps.proofs.ActingLaws.{well}
 use Rattle.pv_table.specs.Created.{change_work}
 use Rattle.pv_table.specs.Effects.{become}
-use Rattle.pv_create.specs.Reached.{AdjustingReached, GivesReached}
+use Rattle.pv_create.specs.Reached.{AdjustingInOrder, GivesReached}
 use Rattle.pv_create.proofs.ReachedLaws.{each_at}
 use Rattle.pv_create.proofs.reached.adjust_each.Given as goal
 
 abbrev pub invariant-loop-at : goal.invariant-loop-at
 invariant-loop-at g l = record {
   here : places (g.T.Tree.state l.tree) ≡ each_at (become l.now l.adjustment.sets) (take l.at-index l.at-items) (places (g.T.Tree.state l.fn.tree));
-  acted : Acted g.T.Tree (AdjustingReached l.adjustment l.path (g.T.Tree.state l.fn.tree)) (GivesReached l.adjustment l.path (g.T.Tree.state l.fn.tree))
+  acted : Acted g.T.Tree (AdjustingInOrder l.adjustment l.path (g.T.Tree.state l.fn.tree)) (GivesReached l.adjustment l.path (g.T.Tree.state l.fn.tree))
       (sum (map (λ q. change_work l.adjustment.sets (places (g.T.Tree.state l.fn.tree) q)) (take l.at-index l.at-items))) l.now l.fn.tree l.tree well;
 }

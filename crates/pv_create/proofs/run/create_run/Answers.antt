@@ -9,6 +9,13 @@ use Rattle.pv_create.proofs.StepLaws.{given}
 use Rattle.pv_create.proofs.StoppedLaws.{mended, mended_again, stopped, between, framed}
 use Rattle.pv_create.proofs.run.create_run.Goals as goal
 
+pub returns-clause-acted : goal.returns-clause-acted
+returns-clause-acted g c =
+    let lines = in_create_order c.args.table.now in
+    let t = g.T.Tree.state c.args.tree.now in
+    subst (λ most. Acted g.T.Tree (Partway (lines_course c.args.now) lines t) (IsStepOfSome (lines_course c.args.now) lines t) most c.args.now c.args.tree.now c.run_in_order.new.tree c.run_in_order.result)
+    (counting_takes c.args.now lines t) c.run_in_order.ensures.acted
+
 -- ---- what it leaves, says and tells; a refusal of a line with `-` changes neither the texts nor the bound
 
 pub returns-clause-ok : goal.returns-clause-ok
@@ -32,13 +39,6 @@ pub returns-clause-part : goal.returns-clause-part
 returns-clause-part g c =
     subst (λ (says : List (List ℕ)). MessagesPart says c.args.messages.now c.run_in_order.new.messages)
     (counting_says c.args.now (in_create_order c.args.table.now) (g.T.Tree.state c.args.tree.now)) c.run_in_order.ensures.part
-
-pub returns-clause-acted : goal.returns-clause-acted
-returns-clause-acted g c =
-    let lines = in_create_order c.args.table.now in
-    let t = g.T.Tree.state c.args.tree.now in
-    subst (λ most. Acted g.T.Tree (Partway (lines_course c.args.now) lines t) (IsStepOfSome (lines_course c.args.now) lines t) most c.args.now c.args.tree.now c.run_in_order.new.tree c.run_in_order.result)
-    (counting_takes c.args.now lines t) c.run_in_order.ensures.acted
 
 pub returns-clause-went : goal.returns-clause-went
 returns-clause-went g c = c.run_in_order.ensures.went

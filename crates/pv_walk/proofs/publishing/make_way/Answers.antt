@@ -17,6 +17,13 @@ use Rattle.pv_walk.proofs.SweepLaws.{below_prefix, count_below-le}
 use Rattle.pv_walk.proofs.publishing.make_way.Goals as goal
 use Rattle.pv_path.proofs.Tests.{on_ok}
 
+pub returns-in-true-true-clause-acted : goal.returns-in-true-true-clause-acted
+returns-in-true-true-clause-acted g c =
+    let t = g.T.Tree.state c.args.tree.now in
+    acted_weaken g.T.Tree (Pruned (is_below c.args.path.now) t) (Clearing c.args.path.now t) (Removes (is_below c.args.path.now)) (Removes (is_prefix c.args.path.now)) (count_below t c.args.path.now) (count_at t c.args.path.now)
+    (clearing_below c.args.path.now t c.is_present.ensures.tree (c.in-true-true.ensures'.kind.0 refl)) (removes-wider (is_below c.args.path.now) (is_prefix c.args.path.now) (below_prefix c.args.path.now))
+    (count_below-le t c.args.path.now) c.remove_below.ensures.acted
+
 module _ (now : ℕ) (path stage : Path) (is : stage ≡ staging_of path) (nonempty : path ≢ []) (t u : Files) where
   cleared_staged : IsCleared now path (places t) (places u) → IsPresent t stage → IsPresent u stage
   cleared_staged clear present =
@@ -94,13 +101,6 @@ returns-in-false-true-clause-staged g c =
     on_ok c.take_away-in-false-true.result
     (λ e. cleared_staged c.args.now c.args.path.now c.args.stage.now c.requires.stage c.requires.not_root (g.T.Tree.state c.args.tree.now) (g.T.Tree.state c.take_away-in-false-true.new.tree) (by_taken c.args.now c.args.path.now c.args.stage.now c.requires.stage c.requires.not_root (g.T.Tree.state c.args.tree.now) (g.T.Tree.state c.take_away-in-false-true.new.tree) (sym c.is_present.ensures.present ∙ c.if-not-is_present.false) e) c.requires.staged)
     c.take_away-in-false-true.ensures.taken
-
-pub returns-in-true-true-clause-acted : goal.returns-in-true-true-clause-acted
-returns-in-true-true-clause-acted g c =
-    let t = g.T.Tree.state c.args.tree.now in
-    acted_weaken g.T.Tree (Pruned (is_below c.args.path.now) t) (Clearing c.args.path.now t) (Removes (is_below c.args.path.now)) (Removes (is_prefix c.args.path.now)) (count_below t c.args.path.now) (count_at t c.args.path.now)
-    (clearing_below c.args.path.now t c.is_present.ensures.tree (c.in-true-true.ensures'.kind.0 refl)) (removes-wider (is_below c.args.path.now) (is_prefix c.args.path.now) (below_prefix c.args.path.now))
-    (count_below-le t c.args.path.now) c.remove_below.ensures.acted
 
 cleared_by_taking : {S A : Type 0} (tree : Ghosts S) (path stage : Path) → stage ≡ staging_of path → {now : ℕ} {a b : S} {r : Result A TreeFault} → IsPresent (tree.state a) path
     → (IsKind Directory (tree.state a) stage → IsKind Directory (tree.state a) path → ⊥) → ((IsKind Directory (tree.state a) stage → ⊥) → (IsKind Directory (tree.state a) path → ⊥) → ⊥)

@@ -17,6 +17,19 @@ use Rattle.pv_walk.proofs.StagedLaws.{staged_start}
 use Rattle.pv_walk.proofs.put.put_over.Goals as goal
 use Rattle.pv_path.proofs.Tests.{on_ok}
 
+pub returns-clause-acted : goal.returns-clause-acted
+returns-clause-acted g c =
+    let t = g.T.Tree.state c.args.tree.now in
+    let path = c.args.path.now in
+    let file = c.args.new.now in
+    let s = new_subtree file in
+    let pieces = c.in_ok-pieces.pieces.items in
+    let plan = new_planned file c.requires.new pieces c.in_ok-pieces.ensures in
+    let cost = new_cost file c.requires.new pieces c.in_ok-pieces.ensures in
+    let most = cost_of pieces + (1 + count_at t path) in
+    acted_weaken g.T.Tree (Replacing path s t) (Replacing path s t) (IsCopyStep path s) (IsPutStep path file) most (count_at t path + most_new) (λ u h. h) (put_new_step file path) (omega (arith, cost))
+    (subst (λ (v : Subtree). Acted g.T.Tree (Replacing path v t) (IsCopyStep path v) most c.args.now c.args.tree.now c.put_subtree.new.tree c.put_subtree.result) plan.1 c.put_subtree.ensures.acted)
+
 pub returns-in_err-pieces-clause-acted : goal.returns-in_err-pieces-clause-acted
 returns-in_err-pieces-clause-acted g c =
     let moves : Moves g.T.Tree = record { stays = g.met.T.Tree.reaches_self; goes_on = g.met.T.Tree.reaches_on; never_falls = g.met.T.Tree.never_falls } in
@@ -53,19 +66,6 @@ returns-clause-ok g c =
     on_ok c.put_subtree.result
     (λ e. e ∙ ap (λ (v : Subtree). with_subtree c.args.now path v (places t)) plan.1 ∙ (λ i q. put_single c.args.now path file (places t) q i))
     c.put_subtree.ensures.ok
-
-pub returns-clause-acted : goal.returns-clause-acted
-returns-clause-acted g c =
-    let t = g.T.Tree.state c.args.tree.now in
-    let path = c.args.path.now in
-    let file = c.args.new.now in
-    let s = new_subtree file in
-    let pieces = c.in_ok-pieces.pieces.items in
-    let plan = new_planned file c.requires.new pieces c.in_ok-pieces.ensures in
-    let cost = new_cost file c.requires.new pieces c.in_ok-pieces.ensures in
-    let most = cost_of pieces + (1 + count_at t path) in
-    acted_weaken g.T.Tree (Replacing path s t) (Replacing path s t) (IsCopyStep path s) (IsPutStep path file) most (count_at t path + most_new) (λ u h. h) (put_new_step file path) (omega (arith, cost))
-    (subst (λ (v : Subtree). Acted g.T.Tree (Replacing path v t) (IsCopyStep path v) most c.args.now c.args.tree.now c.put_subtree.new.tree c.put_subtree.result) plan.1 c.put_subtree.ensures.acted)
 
 pub returns-clause-stages : goal.returns-clause-stages
 returns-clause-stages g c =

@@ -17,6 +17,22 @@ use Rattle.pv_walk.proofs.StageLaws.{short_last}
 use Rattle.pv_walk.proofs.StagedLaws.{staged_start}
 use Rattle.pv_walk.proofs.subtree.stage_subtree.Goals as goal
 
+pub returns-in_err-put_piece-clause-acted : goal.returns-in_err-put_piece-clause-acted
+returns-in_err-put_piece-clause-acted g c =
+    let moves : Moves g.T.Tree = record { stays = g.met.T.Tree.reaches_self; goes_on = g.met.T.Tree.reaches_on; never_falls = g.met.T.Tree.never_falls } in
+    let t = g.T.Tree.state c.args.tree.now in
+    let path = c.args.path.now in
+    let pieces = c.args.pieces.items in
+    let up = ap (λ (p : Path). kind_of (places t p)) (parent_of-staging_of path) ∙ c.requires.parent in
+    let some = staging_nonempty path c.requires.not_root in
+    let u = g.T.Tree.state c.loop-piece.tree in
+    let piece = c.in-Some.piece in
+    let one = cost-push c.pop.new.self.items piece c.in-Some.ensures.items in
+    acted_passed g.T.Tree c.put_piece.result c.from_residual-in_err-put_piece.result c.in_err-put_piece.was c.from_residual-in_err-put_piece.ensures.1
+    (one_more g.T.Tree moves (staging_of path) some pieces c.pop.new.self.items piece up (rw c.in-Some.ensures.items at c.loop-piece.invariant.here)
+    (cost_of pieces) (omega (arith, c.loop-piece.invariant.room, one)) c.loop-piece.invariant.acted
+    (subst (λ (p : Path). Acted g.T.Tree (PieceWay p piece u) (GivesPiece p piece u) (piece_cost piece) c.args.now c.loop-piece.tree c.put_piece.new.tree c.put_piece.result) c.in_ok-stage.ensures c.put_piece.ensures.acted))
+
 pub staging-requires-clause-short : goal.staging-requires-clause-short
 staging-requires-clause-short g c = λ n e. short_last c.args.path.now n c.requires.short e
 
@@ -72,22 +88,6 @@ loop-piece-preserved g c =
     (subst (λ (p : Path). IsDone c.args.now p piece u (g.T.Tree.state c.put_piece.new.tree)) c.in_ok-stage.ensures c.in_ok-put_piece.ensures.ok)
     (subst (λ (p : Path). Acted g.T.Tree (PieceWay p piece u) (GivesPiece p piece u) (piece_cost piece) c.args.now c.loop-piece.tree c.put_piece.new.tree well) c.in_ok-stage.ensures c.in_ok-put_piece.ensures.acted) in
     record { here = next.0; room = next.1.0; acted = next.1.1 }
-
-pub returns-in_err-put_piece-clause-acted : goal.returns-in_err-put_piece-clause-acted
-returns-in_err-put_piece-clause-acted g c =
-    let moves : Moves g.T.Tree = record { stays = g.met.T.Tree.reaches_self; goes_on = g.met.T.Tree.reaches_on; never_falls = g.met.T.Tree.never_falls } in
-    let t = g.T.Tree.state c.args.tree.now in
-    let path = c.args.path.now in
-    let pieces = c.args.pieces.items in
-    let up = ap (λ (p : Path). kind_of (places t p)) (parent_of-staging_of path) ∙ c.requires.parent in
-    let some = staging_nonempty path c.requires.not_root in
-    let u = g.T.Tree.state c.loop-piece.tree in
-    let piece = c.in-Some.piece in
-    let one = cost-push c.pop.new.self.items piece c.in-Some.ensures.items in
-    acted_passed g.T.Tree c.put_piece.result c.from_residual-in_err-put_piece.result c.in_err-put_piece.was c.from_residual-in_err-put_piece.ensures.1
-    (one_more g.T.Tree moves (staging_of path) some pieces c.pop.new.self.items piece up (rw c.in-Some.ensures.items at c.loop-piece.invariant.here)
-    (cost_of pieces) (omega (arith, c.loop-piece.invariant.room, one)) c.loop-piece.invariant.acted
-    (subst (λ (p : Path). Acted g.T.Tree (PieceWay p piece u) (GivesPiece p piece u) (piece_cost piece) c.args.now c.loop-piece.tree c.put_piece.new.tree c.put_piece.result) c.in_ok-stage.ensures c.put_piece.ensures.acted))
 
 pub returns-clause-ok : goal.returns-clause-ok
 returns-clause-ok g c =
