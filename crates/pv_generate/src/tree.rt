@@ -11,8 +11,8 @@ use pv_steps::Kind;
 use pv_tree::MemTree;
 use std::alloc::{AllocError, Global};
 
-/// The tree of a seed and a number of lines: eight directories with as many old files, and the configuration of
-/// `systemd-tmpfiles` of so many lines over them. No step is recorded in it.
+/// The tree of a seed and a number of lines: eight directories, in them as many old files as lines, and the configuration
+/// of `systemd-tmpfiles` with these lines. No step is recorded in it.
 pub fn generated_tree(alloc: Global, seed: u64, count: u32) -> Result<MemTree, AllocError>
     ensures files { IfOk result (λ tree. tree.files ≡ generated seed count) }
     ensures steps { IfOk result (λ tree. tree.steps ≡ []) }

@@ -50,7 +50,7 @@ fn is_listed(ranges: &[ByteRange], byte: u8) -> bool
     ranges.iter().any(|range| range.has(byte))
 }
 
-/// What a pattern is made of between its slashes (glob(7)).
+/// What a pattern is made of between its slashes (glob(7)). Only a written period matches the one with which a name begins.
 #[derive(Clone, Drop)]
 pub enum Element {
     /// This byte.

@@ -38,10 +38,10 @@ pub enum LineFault {
     /// The mode is none.
     #[error("BadMode")]
     BadMode,
-    /// No user has this name or ID.
+    /// The user is neither an ID that may be written nor a name that is found.
     #[error("UnknownUser")]
     UnknownUser,
-    /// No group has this name or ID.
+    /// The group is neither an ID that may be written nor a name that is found.
     #[error("UnknownGroup")]
     UnknownGroup,
     /// The age is none.

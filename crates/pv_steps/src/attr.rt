@@ -132,6 +132,20 @@ impl AttrList {
         Ok(all)
     }
 
+    /// How many attributes there are. It takes no memory.
+    pub fn len(&self) -> usize
+        ensures { result ≡ length self.now }
+    {
+        self.items.len()
+    }
+
+    /// The attribute at a place counted from 0, or nothing past the end. It takes no memory.
+    pub fn get(&self, i: usize) -> Option<&Attr>
+        ensures { option_copied result ≡ slice_get self.now i }
+    {
+        self.items.get(i)
+    }
+
     /// The attributes as a slice.
     pub fn as_slice(&self) -> &[Attr]
         ensures value { result.now ≡ self.now }

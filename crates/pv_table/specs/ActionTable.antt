@@ -185,7 +185,7 @@ taking_of line =
     else if line.letter == 68 then taking.Contents
     else taking.Nothing
 
--- x spares the object with all below, X the object itself
+-- x spares the object, and all below unless the line has an age; X the object itself
 abbrev pub sparing_of : Line → Option Sparing
 sparing_of line =
     if line.letter == 120 then Some sparing.Whole

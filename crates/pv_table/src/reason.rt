@@ -9,7 +9,7 @@ pub enum Reason {
     Source,
     /// The line makes an object below the destination of a copy.
     Below,
-    /// The line may change what is read before the lines are.
+    /// The line may change what lines are read from.
     Input,
     /// The line and an earlier one set a masked mode and base entries of an ACL of one object.
     Mask,

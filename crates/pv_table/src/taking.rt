@@ -16,8 +16,8 @@ pub enum Taking {
 /// What cleaning spares at a path that a line names (tmpfiles.d(5), x and X).
 #[derive(Clone, Copy)]
 pub enum Sparing {
-    /// The object and all that stands below it.
+    /// The object, and all that stands below it unless the line has an age.
     Whole,
-    /// The object itself; what stands below it is cleaned as without the line.
+    /// The object itself; what stands below it is cleaned as without the line, unless that has an age.
     Itself,
 }

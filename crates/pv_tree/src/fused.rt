@@ -14,9 +14,8 @@ use pv_path::{NameList, TreePath};
 use pv_steps::{Node, Step, Tree, TreeFault};
 use std::alloc::{AllocError, Global};
 
-/// A tree with a step limit, which injects a fault: it passes a number of steps and then refuses each further
-/// one. Its state and its list of steps
-/// are those of the inner tree.
+/// A tree with a step limit: it passes a number of steps and then refuses each further one. Its state and its list of
+/// steps are those of the inner tree.
 #[derive(Drop)]
 pub struct Fused<T> {
     inner: T,

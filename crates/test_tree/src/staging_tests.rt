@@ -14,7 +14,9 @@ use pv_path::{Bytes, Name, TreePath, parent, staging};
 use pv_steps::{AttrList, Kind, LetterSet, Tree, Why, is_target};
 use pv_text::Facts;
 use pv_tree::{Fused, MemTree};
-use pv_walk::{NewFile, NewKind, Walked, publish, remove_below, stage_file, sweep, walk};
+use pv_walk::{
+    NewFile, NewKind, TopNode, Walked, publish, remove_below, stage_copy, stage_file, sweep, walk,
+};
 use std::alloc::{AllocError, Global};
 use std::process::Abort;
 use std::test::Fail;
@@ -326,6 +328,76 @@ fn objects_of_all_kinds_are_staged(rt: HostRuntime) -> Result<(), Fail> {
             image.as_slice(),
             image_of(alloc, TOUCHED, line)?.as_slice()
         );
+    }
+    Ok(())
+}
+
+/// Stages a copy for a path, its top with what the source has.
+fn stage_copy_at(
+    rt: &impl Abort,
+    alloc: Global,
+    tree: &mut Fused<MemTree>,
+    source: &[u8],
+    text: &[u8],
+) -> bool {
+    let source = path_of(rt, alloc, source);
+    assert!(rt; tree.look(&source).is_some());
+    let path = path_of(rt, alloc, text);
+    expect_short(rt, &path);
+    expect_below_root(rt, &path);
+    expect_parent(rt, alloc, tree, &path);
+    let stage = staging_of(rt, alloc, &path);
+    assert!(rt; tree.look(&stage).is_none());
+    let top = TopNode {
+        mode: None,
+        uid: None,
+        gid: None,
+    };
+    stage_copy(alloc, tree, &source, &path, &top, NOW).is_ok()
+}
+
+/// A directory of one owner with a file of another.
+const SOURCE: &[u8] = b"d /s 0750 1 2 1,1,1,1 - - - -\nf /s/f 0640 3 4 1,1,1,1 - - - aGk=\n";
+
+/// A copy of both under a staging name, before them.
+const COPIED: &[u8] =
+    b"d /.#tf-x 0750 1 2 9,9,9,9 - - - -\nf /.#tf-x/f 0640 3 4 9,9,9,9 - - - aGk=\nd /s 0750 1 2 1,1,1,1 - - - -\nf /s/f 0640 3 4 1,1,1,1 - - - aGk=\n";
+
+#[test]
+fn a_copy_is_staged_whole(rt: HostRuntime) -> Result<(), Fail> {
+    let alloc = rt.alloc();
+    let image = image_of(alloc, ROOT, SOURCE)?;
+    let mut tree = Fused::new(tree_of(&rt, alloc, &image), None);
+    assert!(rt; stage_copy_at(&rt, alloc, &mut tree, b"/s", b"/x"));
+    let left = write_image(alloc, tree.inner(), &Facts::new(alloc))?;
+    assert_eq!(rt;
+        left.as_slice(),
+        image_of(alloc, TOUCHED, COPIED)?.as_slice()
+    );
+    Ok(())
+}
+
+/// mkdir, mknod, write, then the owner and the mode of the file, then those of the directory.
+#[test]
+fn a_copied_directory_is_filled_before_it_is_given_away(rt: HostRuntime) -> Result<(), Fail> {
+    let alloc = rt.alloc();
+    let stage = staging_of(&rt, alloc, &path_of(&rt, alloc, b"/x"));
+    let image = image_of(alloc, ROOT, SOURCE)?;
+    for (limit, owner) in [
+        (0, None),
+        (1, Some(0)),
+        (2, Some(0)),
+        (3, Some(0)),
+        (4, Some(0)),
+        (5, Some(0)),
+        (6, Some(1)),
+        (7, Some(1)),
+    ] {
+        let mut tree = Fused::new(tree_of(&rt, alloc, &image), Some(limit));
+        let done = stage_copy_at(&rt, alloc, &mut tree, b"/s", b"/x");
+        assert!(rt; done == (limit == 7), "{limit}");
+        let found = tree.look(&stage).map(|node| node.uid);
+        assert!(rt; found == owner, "{limit}");
     }
     Ok(())
 }

@@ -1,7 +1,7 @@
 //! Lines of sysusers.d(5) with the texts of all account files after them.
 use super::given::place_in;
 use pv_requests::{RequestList, read_request};
-use pv_sysusers::{AccountFiles, PathIds, PlanFault, Texts, plan};
+use pv_sysusers::{PathIds, PlanFault, Texts, plan};
 use pv_text::{Facts, Messages};
 use std::alloc::{AllocError, Global};
 use test_sheet::ended;
@@ -67,14 +67,19 @@ pub(crate) fn planned(alloc: Global, lines: &[&str], input: &str) -> Result<Vec<
     let [passwd, group, shadow, gshadow] = files.as_slice() else {
         return ended(Vec::new(alloc), b"not four files");
     };
-    let files = AccountFiles {
-        passwd: passwd.as_bytes(),
-        group: group.as_bytes(),
-        shadow: shadow.as_bytes(),
-        gshadow: Some(gshadow.as_bytes()).filter(|text| !text.is_empty()),
-    };
+    let gshadow = Some(gshadow.as_bytes()).filter(|text| !text.is_empty());
     let taken = PathIds::new(alloc);
     let mut messages = Messages::new(alloc);
-    let planned = plan(alloc, &requests, &files, &taken, 11, &mut messages);
+    let planned = plan(
+        alloc,
+        &requests,
+        passwd.as_bytes(),
+        group.as_bytes(),
+        shadow.as_bytes(),
+        gshadow,
+        &taken,
+        11,
+        &mut messages,
+    );
     plan_answer(alloc, planned, messages.len())
 }
