@@ -105,11 +105,11 @@ lines() {
     printf "d /data/d%d 0750 0 8\nf /data/d%d/f 0640 7 8 - text\nL /data/l%d - - - - d%d\n", i, i, i, i }'
 }
 
-# left: what a run has left, without stamps
+# left: what a run has left, without stamps, and without the file that a write makes first, which a kill may leave
 left() {
-  find it/tree -printf '%y %p\n' | sort
-  find it/tree -type f -exec sha256sum {} + | sort
-  cut -d' ' -f1-5,7- it/manifest
+  find it/tree ! -name '.#tf-' -printf '%y %p\n' | sort
+  find it/tree -type f ! -name '.#tf-' -exec sha256sum {} + | sort
+  cut -d' ' -f1-5,7- it/manifest | grep -v '/\.#tf- '
 }
 
 check_answers() {
@@ -167,7 +167,9 @@ check_answers() {
   fresh; chmod 0500 it/tree; ends "a tree that may not be written" 77 ""
   fresh; mkdir it/tree/run; own it; chmod 0500 it/tree/run; ends "a directory that may not be written" 77 ""
   fresh; chmod 0500 it; ends "a folder that may not be written" 77 ""
-  fresh; echo x > it/manifest.new; own it; chmod 0400 it/manifest.new; ends "a manifest.new that may not be written" 77 ""
+  fresh; echo x > it/manifest.new; own it; chmod 0400 it/manifest.new; answers "a manifest.new that may not be written" 0 ""; is_done "it is replaced"
+  fresh; mkdir it/.#tf-; answers "a directory that has the name of the file beside" 77 ""
+  rmdir it/.#tf-; answers "it is gone" 0 ""; is_done "it is gone"
   fresh; answers "a manifest that may not be written" 0 ""; chmod 0400 it/manifest; echo 'd /a' >> it/tree/etc/tmpfiles.d/a.conf
   answers "it is replaced" 0 ""; grep -q '^d /a 0755 ' it/manifest || otherwise "it is replaced: by what"
 

@@ -1,6 +1,7 @@
 #!/usr/bin/env bash
 # Measures how long the first shared path of two patterns takes: for patterns of more and more elements, of which each
-# question grows as the product of the two numbers, and two million questions on patterns whose heads differ.
+# question grows as the product of the two numbers, two million questions on patterns whose heads differ, and a hundred
+# thousand on patterns of seven elements.
 # A line for each: the seconds of processor time, and how many times those of the line before.
 set -eu
 
@@ -32,3 +33,4 @@ for count in 10 30 100 300 1000; do
   before=$now
 done
 printf 'two million questions on other heads  %s s\n' "$(seconds '/data/g1/d2' '/data/g2/e?' 2000000)"
+printf 'a hundred thousand questions on small machines %s s\n' "$(seconds '/a/*12345*' '/a/*67890*' 100000)"

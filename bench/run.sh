@@ -64,6 +64,10 @@ mixed() { head_of "$(mixed_lines "$1")"; directories /g; children "$1"; echo end
 # pattern COUNT: one line whose pattern matches a tenth of so many files in one directory
 pattern() { head_of 'z /f/f*7 0640'; directories /f; files /f "$1"; echo end; }
 
+# meeting COUNT: so many lines of which any two patterns share paths
+meeting_lines() { awk -v count="$1" 'BEGIN { for (i = 0; i < count; i++) printf "r /a/*%05d*\n", 10000 + i * 7919 % 90000 }'; }
+meeting() { head_of "$(meeting_lines "$1")"; echo end; }
+
 # deep COUNT: one line that gives all directories a mode, which stand so many one in another
 deep() {
   printf 'tree-image %s\n' "$version"; directories /
@@ -221,6 +225,9 @@ row aged500     -        nested 'd /v - - - 0' 500
 row aged2000    aged500  nested 'd /v - - - 0' 2000
 row old10k      -        full 'd /v - - - 0' 10000
 row old100k     old10k   full 'd /v - - - 0' 100000
+words='systemd-tmpfiles --report'
+row meeting250  -        meeting 250
+row meeting1000 meeting250 meeting 1000
 words=systemd-sysusers
 row users1000   -        accounts 1000 0
 row members1000 users1000 accounts 1000 1000

@@ -9,7 +9,12 @@ them; a name after a record (`IsStopped`: `again`) must be a part of it; a law
 is a function of its name. In a text, `NAME`: at the beginning of a part is a
 clause. What is no such name is said by no one and is not checked.
 
-    check_clauses.py [TOP]      status 1 where a name is missing
+A call or a law that is named so must be public: a `pub fn` that its crate's
+lib.rt reaches by `pub use` or `pub mod`, or one of a type or a trait that it
+reaches. No one outside of the crate can cite another. A program has no such
+file, and all its calls count.
+
+    check_clauses.py [TOP]      status 1 where a name is missing or private
 """
 
 import re
@@ -17,10 +22,13 @@ import sys
 from dataclasses import dataclass, field
 from pathlib import Path
 
-FUNCTION = re.compile(r"^(\s*)(?:pub(?:\([a-z]+\))? )?(?:const )?(?:unsafe )?fn (\w+)")
+FUNCTION = re.compile(r"^(\s*)(pub(?:\([a-z]+\))? )?(?:const )?(?:unsafe )?fn (\w+)")
 OWNER = re.compile(r"^(?:pub(?:\([a-z]+\))? )?(impl|trait)\b(.*)")
+USE = re.compile(r"^pub use ([\w:]+?)(?:::(\w+|\*)(?: as \w+)?|::\{([^}]*)\});", re.MULTILINE)
+MODULE = re.compile(r"^pub mod (\w+);", re.MULTILINE)
 ENSURES = re.compile(r"\bensures(?: (\w+))? \{")
 RECORD = re.compile(r"^(?:abbrev |def )?(?:pub )?(?:record|data) (?:pub )?(\w+)")
+DEFINITION = re.compile(r"^(?:\w+ )*([A-Za-z_]\w*) :")
 FIELD = re.compile(r"^\s+(?:pub )?([a-z]\w*(?: [a-z]\w*)*) :")
 TOKEN = re.compile(r"`([^`]+)`")
 NAME = re.compile(r"[A-Za-z_]\w*\Z")
@@ -37,7 +45,56 @@ class Function:
     crate: str
     owners: frozenset[str]
     name: str
+    public: bool
+    homes: set[str] = field(default_factory=set)
     clauses: list[str | None] = field(default_factory=list)
+
+
+class Surface:
+    """What a crate lends to others: names that its lib.rt reaches, and its public modules."""
+
+    def __init__(self, folder: Path, crates: set[str]) -> None:
+        self.own: set[str] = set()
+        self.lent: list[tuple[str, str]] = []
+        self.files: set[Path] = set()
+        self.program = not (folder / "src/lib.rt").exists()
+        if not self.program:
+            self._read(folder / "src/lib.rt", folder / "src", crates)
+
+    def _read(self, path: Path, folder: Path, crates: set[str]) -> None:
+        self.files.add(path)
+        text = path.read_text()
+        for found in USE.finditer(text):
+            first, *_ = found[1].split("::")
+            names = [name.split()[0] for name in (found[2] or found[3]).split(",") if name.strip()]
+            if first in crates:
+                self.lent += [(first, name) for name in names]
+            elif "*" in names:
+                self._read_module(folder, found[1].split("::")[-1], crates)
+            else:
+                self.own.update(names)
+        for found in MODULE.finditer(text):
+            self._read_module(folder, found[1], crates)
+
+    def _read_module(self, folder: Path, name: str, crates: set[str]) -> None:
+        for path in (folder / f"{name}.rt", folder / name / "mod.rt"):
+            if path.exists() and path not in self.files:
+                self._read(path, folder / name, crates)
+
+    def reaches(self, path: Path, name: str) -> bool:
+        """Whether the crate's root reaches a public name of a file."""
+        return self.program or path in self.files or name in self.own
+
+
+def type_of(header: str) -> str:
+    """The type, or the trait, of which an impl or a trait is."""
+    depth = 0
+    text = ""
+    for letter in header.replace("->", ""):
+        depth += (letter == "<") - (letter == ">")
+        text += letter if depth == 0 and letter != ">" else ""
+    found = re.search(r"\w+", text.split(" for ")[-1])
+    return found[0] if found else ""
 
 
 class Code:
@@ -47,27 +104,41 @@ class Code:
         self.functions: dict[str, list[Function]] = {}
         self.records: dict[str, set[str]] = {}
         self.words: set[str] = set()
+        self.defined: set[str] = set()
         self.crates = {crate.name for crate in (top / "crates").iterdir()}
+        surfaces = {}
         for crate in sorted((top / "crates").iterdir()):
+            surface = surfaces[crate.name] = Surface(crate, self.crates)
             for path in sorted(crate.rglob("*.rt")):
                 if "out" not in path.relative_to(crate).parts:
-                    self._read_source(crate.name, path.read_text())
+                    self._read_source(crate.name, path, surface)
             for path in sorted(crate.rglob("*.antt")):
                 if "out" not in path.relative_to(crate).parts:
                     self._read_definitions(path.read_text())
+        for crate, surface in surfaces.items():
+            for home, name in surface.lent:
+                for function in self.functions.get(name, ()):
+                    if function.crate == home and function.public:
+                        function.homes.add(crate)
 
-    def _read_source(self, crate: str, text: str) -> None:
+    def _read_source(self, crate: str, path: Path, surface: Surface) -> None:
+        text = path.read_text()
         self.words.update(re.findall(r"\w+", text))
         owners: frozenset[str] = frozenset()
+        owner = ("", "")
         function = None
         for line in text.splitlines():
             if line.startswith("}"):
-                owners = frozenset()
+                owners, owner = frozenset(), ("", "")
             if found := OWNER.match(line):
                 owners = frozenset(re.findall(r"\b[A-Z]\w+", found[2]))
+                of_trait = found[1] == "trait" or " for " in found[2]
+                owner = (type_of(found[2]), "pub " if of_trait else "")
             if found := FUNCTION.match(line):
-                function = Function(crate, owners, found[2])
-                self.functions.setdefault(found[2], []).append(function)
+                mark = found[2] or owner[1]
+                public = surface.program or mark == "pub " and surface.reaches(path, owner[0] or found[3])
+                function = Function(crate, owners, found[3], public, {crate})
+                self.functions.setdefault(found[3], []).append(function)
             for found in ENSURES.finditer(line):
                 if function is not None and not line.lstrip().startswith("//"):
                     function.clauses.append(found[1])
@@ -76,6 +147,8 @@ class Code:
         self.words.update(re.findall(r"\w+", text))
         parts: set[str] | None = None
         for line in text.splitlines():
+            if found := DEFINITION.match(line):
+                self.defined.add(found[1])
             if found := RECORD.match(line):
                 parts = self.records.setdefault(found[1], set())
             elif parts is not None and (found := FIELD.match(line)):
@@ -91,12 +164,17 @@ class Code:
         *before, name = text.split("::")
         found = self.functions.get(name, [])
         for word in before:
-            found = [it for it in found if word in (it.crate, *it.owners)]
+            found = [it for it in found if word in it.homes or word in it.owners]
         own = [it for it in found if it.crate == crate]
         return own or found
 
     def stands_anywhere(self, clause: str) -> bool:
         return any(clause in it.clauses for found in self.functions.values() for it in found)
+
+    def means_more(self, name: str) -> bool:
+        """Whether a name is also a clause, a part or a definition."""
+        return (name in self.defined or self.stands_anywhere(name)
+                or any(name in parts for parts in self.records.values()))
 
 
 @dataclass(frozen=True)
@@ -120,7 +198,9 @@ class Document:
         self.checked = 0
 
     def miss(self, number: int, text: str) -> None:
-        self.missing.append(Missing(f"{self.name}:{number}", text))
+        missing = Missing(f"{self.name}:{number}", text)
+        if missing not in self.missing:
+            self.missing.append(missing)
 
     def check(self) -> None:
         header: list[str] | None = None
@@ -130,12 +210,21 @@ class Document:
                 header = None
                 if line.startswith("- "):
                     self._check_item(number, line)
+                self._check_names(number, line)
                 continue
+            self._check_names(number, line)
             cells = [cell.strip() for cell in line.strip("|").split("|")]
             if header is None:
                 header, calls = cells, []
             elif not set(line) <= set("|- :") and "call" in header:
                 calls = self._check_row(number, header, cells, calls)
+
+    def _check_names(self, number: int, line: str) -> None:
+        """A name that means a private call alone is no promise."""
+        for name in TOKEN.findall("" if line.startswith("    ") else line):
+            functions = self.code.calls(name, self.crate) if re.fullmatch(r"[\w:]+", name) else []
+            if functions and not self.code.means_more(name):
+                self._public(number, name, functions)
 
     # Rows
 
@@ -161,8 +250,15 @@ class Document:
             if not functions and not call[0].isupper() and call not in self.code.crates:
                 self.miss(number, f"no call `{call}`")
             if functions:
-                found.append(functions)
+                found.append(self._public(number, call, functions))
         return found
+
+    def _public(self, number: int, name: str, functions: list[Function]) -> list[Function]:
+        """Those of some functions that others can cite; one at least must be such."""
+        public = [it for it in functions if it.public]
+        if not public:
+            self.miss(number, f"`{name}` is private")
+        return public or functions
 
     def _check_clauses(self, number: int, calls: list[str], text: str, laws: bool, anywhere: bool) -> None:
         found = self._found(number, calls)
@@ -194,7 +290,7 @@ class Document:
             if not NAME.match(first) or first == "ensures" or first in self.code.crates:
                 continue
             if between == " of " and (called := self.code.calls(f"{crate}::{first}", None)):
-                found.append(called)
+                found.append(self._public(number, first, called))
                 inside = False
                 continue
             self.checked += 1
@@ -205,7 +301,8 @@ class Document:
             elif inside:
                 self._check_field(number, record, first)
             elif not self._is_clause(found, first, named):
-                if self._is_law(found, first, laws):
+                if law := self._laws(found, first, laws):
+                    self._public(number, first, law)
                     laws = True
                 elif not (anywhere and self.code.stands_anywhere(first)):
                     calls = ", ".join(f"`{it[0].name}`" for it in found) or "any call"
@@ -228,10 +325,10 @@ class Document:
             named.add(name)
         return fine
 
-    def _is_law(self, found, name: str, laws: bool) -> bool:
-        """Whether a name is a law, where laws are spoken of or it is of the crate of a call."""
-        crates = {function.crate for functions in found for function in functions}
-        return any(laws or it.crate in crates for it in self.code.functions.get(name, ()))
+    def _laws(self, found, name: str, laws: bool) -> list[Function]:
+        """The laws of a name, where laws are spoken of or they are of the crate of a call."""
+        crates = {crate for functions in found for function in functions for crate in function.homes}
+        return [it for it in self.code.functions.get(name, ()) if laws or it.homes & crates]
 
     # Texts
 
@@ -258,7 +355,7 @@ class Document:
         if head is None:
             return
         calls = [call for call in TOKEN.findall(head[1]) if self.code.calls(call, self.crate)]
-        found = [self.code.calls(call, self.crate) for call in calls]
+        found = [self._public(number, call, self.code.calls(call, self.crate)) for call in calls]
         for name in re.findall(r"[(;,] ?`(\w+)`(?=[:;,)])", text) if found else ():
             self.checked += 1
             if not self._is_clause(found, name, set()) and name not in self.code.words:

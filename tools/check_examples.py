@@ -4,7 +4,8 @@
 A transcript is a block of lines that begin with four spaces, of which some
 begin with `    $ `: a command each, and after it all that it prints. Read are
 README.md, docs/*.md, examples/*.md and man/*. They run in a scratch copy, in
-order, with the program as `provision` on the path: a document that names
+order, with the program as `provision` on the path, and `provision-image`,
+`tar_to_image` and `image_to_tar` beside it. A document that names
 `out/provision` runs in crates/provision, any other one at the top. A word
 /tmp/NAME is a file of the copy. A block of an image must be one, and where the
 text before it says "With `WORDS` it gives", it must be what these words give
@@ -108,6 +109,11 @@ class Scratch:
         out = self.top / "crates/provision/out"
         out.mkdir(parents=True)
         shutil.copy(program, out / "provision")
+        if (TOP / "CHANGELOG.md").is_file():
+            shutil.copy(TOP / "CHANGELOG.md", self.top)
+        for tool in ("provision_image", "tar_to_image", "image_to_tar"):
+            name = "provision-image" if tool == "provision_image" else tool
+            (out / name).symlink_to(self.top / "tools" / f"{tool}.py")
         (room / "tmp").mkdir()
         self.folder = self.top / "crates/provision" if at_crate else self.top
         path = f"{out}:{self.top}/tools:{os.environ.get('PATH', '/usr/bin:/bin')}"

@@ -26,15 +26,32 @@ Status: 0 done, 1 an error, after which the archive is not whole.
 import argparse
 import gc
 import hashlib
+import struct
 import sys
 from collections.abc import Iterator
+from dataclasses import dataclass
+from typing import Protocol
 
+from hard_links import join_names
 from tar_stream import XATTR, Member, TarReader, archive_end, member_head, padding
 from tree_folder import FolderReader
 from tree_image import (
-    AclPart, ImageReader, Marker, Node, Trouble, perm_text, printed_path, read_acl, read_marker,
+    AclPart, ImageReader, Marker, Node, Trouble, digest_marker, perm_text, printed_path, read_acl, read_marker,
 )
 
+@dataclass(frozen=True, slots=True)
+class Form:
+    """Which records a member has beside those that each archive needs.
+
+    `times`: the access, change and birth timestamps that differ from the modify timestamp.
+    `acl_attributes`: ACLs also as extended attributes in the kernel's form, which container tools read.
+    """
+
+    times: bool = True
+    acl_attributes: bool = False
+
+
+WHOLE = Form()
 TYPES = {"d": b"5", "f": b"0", "l": b"2", "p": b"6", "c": b"3", "b": b"4"}
 
 
@@ -56,7 +73,7 @@ class OldContents:
                 digest = hashlib.sha256()
                 for piece in self.pieces(member):
                     digest.update(piece)
-                self._found.setdefault(Marker(digest.hexdigest(), member.size), member)
+                self._found.setdefault(digest_marker(digest.hexdigest(), member.size), member)
         return self._found.get(marker)
 
     def pieces(self, member: Member) -> Iterator[bytes]:
@@ -71,12 +88,14 @@ def seconds_text(micros: int) -> bytes:
     return f"{seconds}.{rest:06}".rstrip("0").encode() if rest else b"%d" % seconds
 
 
-def stamp_records(node: Node) -> dict[bytes, bytes]:
+def stamp_records(node: Node, form: Form) -> dict[bytes, bytes]:
     """Records for the stamps that the header has no room for."""
     records = {}
     seconds, rest = divmod(node.modify, 1000000)
     if rest or seconds >= 8**11:
         records[b"mtime"] = seconds_text(node.modify)
+    if not form.times:
+        return records
     for key, value in ((b"atime", node.access), (b"ctime", node.change), (b"PROVISION.birth", node.birth)):
         if value != node.modify:
             records[key] = seconds_text(value)
@@ -96,10 +115,28 @@ def acl_text(part: AclPart) -> bytes:
     return ",".join(entries).encode()
 
 
-def put_acl(node: Node, member: Member) -> None:
+def acl_value(part: AclPart) -> bytes:
+    """A part as the kernel stores it, with a mask wherever acl(5) wants one."""
+    nobody = 0xFFFFFFFF
+    entries = [(1, part.owner, nobody)]
+    entries += [(2, perm, number) for number, perm in sorted(part.users.items())]
+    entries.append((4, part.group, nobody))
+    entries += [(8, perm, number) for number, perm in sorted(part.groups.items())]
+    if not part.is_plain():
+        entries.append((16, part.union() if part.mask is None else part.mask, nobody))
+    entries.append((32, part.other, nobody))
+    return struct.pack("<I", 2) + b"".join(struct.pack("<HHI", *entry) for entry in entries)
+
+
+def put_acl(node: Node, member: Member, form: Form) -> None:
     """The records of an ACL; the group bits of the mode show the mask, as in a file system."""
     access, default = read_acl(node.acl, node.mode)
     computed = []
+    if form.acl_attributes:
+        if not access.is_plain():
+            member.records[XATTR + b"system.posix_acl_access"] = acl_value(access)
+        if default is not None:
+            member.records[XATTR + b"system.posix_acl_default"] = acl_value(default)
     if not access.is_plain():
         mask = access.union() if access.mask is None else access.mask
         member.mode = node.mode & 0o7707 | mask << 3
@@ -114,15 +151,15 @@ def put_acl(node: Node, member: Member) -> None:
         member.records[b"PROVISION.mask"] = b",".join(computed)
 
 
-def member_of(node: Node, size: int) -> Member:
+def member_of(node: Node, size: int, form: Form = WHOLE) -> Member:
     """The member of a node whose contents have this size."""
     name = b"." + node.path + (b"/" if node.kind == "d" and node.path != b"/" else b"")
     member = Member(
         name, TYPES[node.kind], node.mode, node.uid, node.gid, size, node.modify // 1000000,
-        node.target, node.major, node.minor, stamp_records(node),
+        node.target, node.major, node.minor, stamp_records(node, form),
     )
     if node.acl != "-":
-        put_acl(node, member)
+        put_acl(node, member, form)
     for key, value in node.attrs.items():
         key = key.replace(b"%", b"%25").replace(b"=", b"%3D")
         member.records[XATTR + key] = value
@@ -131,12 +168,23 @@ def member_of(node: Node, size: int) -> Member:
     return member
 
 
+class Contents(Protocol):
+    """Where the contents stand that an image has markers for."""
+
+    def find(self, marker: Marker) -> object | None:
+        """What `pieces` takes for the contents of a marker; None if they are not there."""
+
+    def pieces(self, found) -> Iterator[bytes]:
+        """The contents, piece by piece."""
+
+
 class Writer:
     """Writes an archive and counts its bytes."""
 
-    def __init__(self, sink, old: OldContents | None) -> None:
+    def __init__(self, sink, old: Contents | None, form: Form = WHOLE) -> None:
         self._sink = sink
         self._old = old
+        self._form = form
         self._written = 0
 
     def _write(self, data: bytes) -> None:
@@ -152,14 +200,19 @@ class Writer:
         if found:
             self._add_large(node, *found)
             return
-        self._write(member_head(member_of(node, len(content))))
+        self._write(member_head(member_of(node, len(content), self._form)))
         if content:
             self._write(content + padding(len(content)))
+
+    def add_hard_link(self, node: Node, first: bytes) -> None:
+        """A node that is another name of an object whose first name was added before."""
+        self._write(member_head(Member(
+            b"." + node.path, b"1", node.mode, node.uid, node.gid, 0, node.modify // 1000000, b"." + first)))
 
     def add_real(self, node: Node, folder: FolderReader) -> None:
         """A node of a folder; the bytes of a file come from there."""
         size = folder.size(node) if node.kind == "f" else 0
-        self._write(member_head(member_of(node, size)))
+        self._write(member_head(member_of(node, size, self._form)))
         if size:
             written = 0
             for piece in folder.pieces(node):
@@ -174,12 +227,12 @@ class Writer:
         if self._old is None:
             raise Trouble(f"{printed_path(node.path)}: a large file; its contents stand in the "
                           "archive that the image was made of, which is not given")
-        member = self._old.find(marker)
-        if member is None:
+        found = self._old.find(marker)
+        if found is None:
             raise Trouble(f"{printed_path(node.path)}: no file of the old archive has its contents")
         size = marker.length + len(added)
-        self._write(member_head(member_of(node, size)))
-        for piece in self._old.pieces(member):
+        self._write(member_head(member_of(node, size, self._form)))
+        for piece in self._old.pieces(found):
             self._write(piece)
         self._write(added + padding(size))
 
@@ -200,8 +253,13 @@ def convert(old: OldContents | None) -> None:
 def convert_folder(folder: FolderReader) -> None:
     """Write the archive of a folder."""
     writer = Writer(sys.stdout.buffer, None)
-    for node in folder.nodes():
-        writer.add_real(node, folder)
+    nodes = list(folder.nodes())
+    first_names = join_names(folder.hard_links(nodes))
+    for node in nodes:
+        if node.path in first_names:
+            writer.add_hard_link(node, first_names[node.path])
+        else:
+            writer.add_real(node, folder)
     writer.finish()
 
 

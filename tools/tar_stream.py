@@ -117,10 +117,15 @@ class TarReader:
 
     def members(self, by_seek: bool = False) -> Iterator[Member]:
         """All members; `by_seek` goes over their bytes without reading them."""
+        length = self._file.seek(0, 2) if by_seek else None
+        if by_seek:
+            self.seek(self.position)
         while (member := self._next_member()) is not None:
             yield member
             end = member.offset + _padded(member.stored)
             if by_seek:
+                if member.offset + member.stored > length:
+                    raise self._fault(length, "the archive is cut off")
                 self.seek(end)
             else:
                 self._skip_to(end)

@@ -5,8 +5,9 @@
     tar_to_image.py --folder=FOLDER ROOT.tar
 
 Directories, files, links, FIFOs and devices are taken over with owners as
-numbers, modes, ACLs (SCHILY.acl.*), extended attributes (SCHILY.xattr.*) and
-stamps, cut to microseconds (mtime, atime, ctime). A stamp that the archive
+numbers, modes, ACLs (SCHILY.acl.*, or in the kernel's form with its numbers
+SCHILY.xattr.system.posix_acl_*, which counts more), extended attributes
+(SCHILY.xattr.*) and stamps, cut to microseconds (mtime, atime, ctime). A stamp that the archive
 lacks is the modify stamp. Hard links become files of their own. Attribute
 letters are taken from the flags that bsdtar writes (SCHILY.fflags). Records of
 this project: PROVISION.letters (attribute letters), PROVISION.birth (a stamp),
@@ -20,8 +21,11 @@ tmpfiles.d or sysusers.d, account files, --inline) stays inline, whatever its
 length.
 
 With --folder the tree comes into a folder that is absent or empty, for runs
-with --root: directories and files are real (FOLDER/tree), whatever their
-length, and FOLDER/manifest has all else. No name may be other than UTF-8.
+with --root: directories and files are real (FOLDER/tree), and FOLDER/manifest
+has all else. No name may be other than UTF-8. A run takes at most 64 MiB in
+files: if there are more, the bytes of large files stand in FOLDER/contents,
+and image_to_tar.py --folder puts them back. Hard links of one file are hard
+links in FOLDER/tree, too. Only the owner of the folder can read what is in it.
 
 Each thing that an image cannot hold is named on standard error; with --strict
 it is an error, and no image is written. Status: 0 done, 1 an error.
@@ -38,12 +42,13 @@ import tempfile
 from collections.abc import Iterator
 from dataclasses import dataclass
 
+from hard_links import groups_of, join_names
 from tar_stream import XATTR, Member, TarReader
 from tree_folder import write_folder
 from tree_image import (
     FACT_LETTERS, KIND_NAMES, LARGEST_ID, LARGEST_NUMBER, LARGEST_STAMP, LONGEST_FACT,
     LONGEST_IMAGE, LONGEST_NAME, LONGEST_TARGET, MAGIC, NODE_LETTERS, AclPart, Marker, Node, Notices, Trouble,
-    attr_fault, head_lines, is_configuration, name_fault, node_line, parent_of, path_key,
+    attr_fault, digest_marker, head_lines, is_configuration, name_fault, node_line, parent_of, path_key,
     perm_bits, print_acl, printed_path,
 )
 
@@ -88,8 +93,12 @@ class Span:
 
 @dataclass(slots=True)
 class Entry(Node):
-    """A node with the texts of its ACL, which wait for the tree's own accounts."""
+    """A node with the texts of its ACL, which wait for the tree's own accounts.
 
+    Hard links of one object have the same `number`, all other nodes one of their own.
+    """
+
+    number: int = 0
     access_text: bytes = b""
     default_text: bytes = b""
     computed_masks: bytes = b""
@@ -135,14 +144,16 @@ class Store:
 class Builder:
     """Makes nodes of members; what a node cannot hold is named."""
 
-    def __init__(self, notices: Notices, limit: int | None, inline: frozenset[bytes], whole: bool = False) -> None:
+    def __init__(self, notices: Notices, limit: int | None, inline: frozenset[bytes], whole: bool = False,
+                 store: Store | None = None) -> None:
         self.notices = notices
         self.is_whole = whole  # contents of every length are kept as they are
         self.is_free = limit is None and not whole
         self.limit = INLINE_LIMIT if limit is None else limit
         self.inline = inline
-        self.store = Store()
+        self.store = Store() if store is None else store
         self.nodes: dict[bytes, Entry] = {}
+        self._objects = 0
         self._has_acls = False
 
     def warn(self, path: bytes, text: str) -> None:
@@ -182,8 +193,9 @@ class Builder:
 
     def _plain_node(self, kind: str, path: bytes, member: Member) -> Entry:
         modify = self._stamp(path, member.records.get(b"mtime"), member.seconds * 1000000)
+        self._objects += 1
         node = Entry(kind, path, member.mode & 0o7777, self._owner(path, member.uid),
-                     self._owner(path, member.gid), modify, modify, modify, modify)
+                     self._owner(path, member.gid), modify, modify, modify, modify, number=self._objects)
         if path == b"/" and kind != "d":
             raise Trouble(f"/: a {KIND_NAMES[kind]} as the root")
         return node
@@ -231,9 +243,11 @@ class Builder:
         for name in Entry.__dataclass_fields__:
             if name != "path":
                 setattr(node, name, getattr(first, name))
-        self.notices.note(f"{printed_path(node.path)}: a hard link to {printed_path(source)}, "
-                          "taken as an object of its own")
+        self._say_hard_link(node.path, source)
         return True
+
+    def _say_hard_link(self, path: bytes, first: bytes) -> None:
+        self.notices.note(f"{printed_path(path)}: a hard link to {printed_path(first)}, taken as an object of its own")
 
     def _keeps(self, node: Node) -> bool:
         """Whether contents stay inline, whatever their length."""
@@ -251,11 +265,19 @@ class Builder:
             if keeps:
                 raise Trouble(f"{printed_path(node.path)}: configuration that begins as the "
                               "marker of a large file does")
-            return Marker(hashlib.sha256(data).hexdigest(), len(data))
+            return digest_marker(hashlib.sha256(data).hexdigest(), len(data))
         digest = hashlib.sha256()
         for piece in reader.contents(member):
             digest.update(piece)
-        return Marker(digest.hexdigest(), member.size)
+        return digest_marker(digest.hexdigest(), member.size)
+
+    def size(self, node: Entry) -> int:
+        """The length of a file."""
+        return node.content.length
+
+    def pieces(self, node: Entry) -> Iterator[bytes]:
+        """The bytes of a file, piece by piece."""
+        return self.store.pieces(node.content)
 
     # Records
 
@@ -286,7 +308,7 @@ class Builder:
                     self._put_attr(node, name, binascii.a2b_base64(value + b"=="))
             elif key not in KNOWN_RECORDS and not key.startswith(b"GNU.sparse."):
                 self.warn(path, f"the record {printed_path(key)}, left out")
-        self._keep_acls(node, acls | records)
+        self._keep_acls(node, records | acls)  # texts may have names of the machine that packed them
 
     def _put_letters(self, node: Node, text: str) -> None:
         odd = sorted(set(text) - set(NODE_LETTERS))
@@ -353,7 +375,7 @@ class Builder:
         for node in nodes:
             if node.content.length > self.limit:
                 digest = hashlib.sha256(self.store.read(node.content)).hexdigest()
-                node.content = Marker(digest, node.content.length)
+                node.content = digest_marker(digest, node.content.length)
         if self.limit < INLINE_LIMIT:
             self.notices.note(f"contents over {self.limit} bytes stand as markers, so that the image stays short")
 
@@ -608,10 +630,10 @@ def parse_words(words: list[str]) -> argparse.Namespace:
     return options
 
 
-def read_tar(file, builder: Builder) -> list[Node]:
-    """The nodes of an archive."""
+def read_tar(file, builder: Builder, by_seek: bool = False) -> list[Entry]:
+    """The nodes of an archive; `by_seek` goes over contents that the builder does not read."""
     reader = TarReader(file)
-    for member in reader.members():
+    for member in reader.members(by_seek):
         builder.add(reader, member)
     if not reader.ended:
         builder.notices.warn("the archive has no end; it may be cut off")
@@ -642,7 +664,8 @@ def run(words: list[str]) -> int:
     if notices.failed():
         return 1
     if options.folder is not None:
-        write_folder(options.folder, facts, nodes, lambda node: builder.store.pieces(node.content), notices)
+        first_names = join_names(groups_of((node.number, node) for node in nodes if node.kind == "f"))
+        write_folder(options.folder, facts, nodes, builder, notices, first_names)
         return 1 if notices.failed() else 0
     return write_image(builder, nodes, facts, notices)
 

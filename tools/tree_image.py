@@ -462,19 +462,28 @@ def _put_payload(node: Node, payload: bytes) -> None:
 
 # Markers: what stands in an image for the contents of a large file
 
-MAGIC = b"provision-large-file sha256 "
-_MARKER = re.compile(MAGIC + rb"([0-9a-f]{64}) length (0|[1-9][0-9]*)\n")
+MAGIC = b"provision-large-file "
+_MARKER = re.compile(MAGIC + rb"(sha256 [0-9a-f]{64}|number (?:0|[1-9][0-9]*)) length (0|[1-9][0-9]*)\n")
 
 
 @dataclass(frozen=True, slots=True)
 class Marker:
-    """Contents that stand in another place, by their SHA-256 and their length."""
+    """Contents that stand in another place, by a name and their length.
 
-    sha256: str
+    The name is `sha256 DIGEST` wherever an image leaves the program that made it.
+    `number N` names contents within one program alone.
+    """
+
+    name: str
     length: int
 
     def text(self) -> bytes:
-        return MAGIC + f"{self.sha256} length {self.length}\n".encode()
+        return MAGIC + f"{self.name} length {self.length}\n".encode()
+
+
+def digest_marker(digest: str, length: int) -> Marker:
+    """The marker of contents with this SHA-256."""
+    return Marker(f"sha256 {digest}", length)
 
 
 def read_marker(content: bytes) -> tuple[Marker, bytes] | None:

@@ -34,6 +34,43 @@ pub fn all_is_well()
     ensures { true }
 {}
 """
+PARTS = """\
+pub fn lend(a: u8)
+    ensures lent { true }
+{}
+
+pub(crate) fn take(a: u8)
+    ensures taken { true }
+{}
+
+fn keep()
+    ensures kept { true }
+{}
+
+pub fn forgotten()
+    ensures gone { true }
+{}
+
+pub fn nothing_is_lost()
+    ensures { true }
+{}
+
+impl Shelf {
+    pub fn hold(&self)
+        ensures held { true }
+    {}
+
+    fn drop(&self)
+        ensures dropped { true }
+    {}
+}
+
+impl<T: Tree> Drawer<T> {
+    pub fn shut(&self)
+        ensures closed { true }
+    {}
+}
+"""
 DEFINITIONS = """\
 -- what is promised
 record pub IsEnded (a : Nat) : Type 0 where
@@ -45,9 +82,12 @@ record pub IsEnded (a : Nat) : Type 0 where
 
 
 class Clauses(ToolCase):
-    def said(self, *rows: str, header: str = "| promise | call | clause |") -> list[str]:
+    def said(self, *rows: str, header: str = "| promise | call | clause |", more: dict | None = None) -> list[str]:
         crate = self.room / "crates/thing"
         (crate / "src").mkdir(parents=True, exist_ok=True)
+        for name, text in (more or {}).items():
+            (self.room / "crates" / name).parent.mkdir(parents=True, exist_ok=True)
+            (self.room / "crates" / name).write_text(text)
         (crate / "specs").mkdir(exist_ok=True)
         (crate / "src/lib.rt").write_text(SOURCE)
         (crate / "specs/Ended.antt").write_text(DEFINITIONS)
@@ -83,6 +123,40 @@ class Clauses(ToolCase):
                          ["README.md:3: `go` has none of the clauses `kept`"])
         self.assertEqual(self.said("| a | a law | `all_is_bad` |"),
                          ["README.md:3: no clause `all_is_bad` on any call"])
+
+    def test_what_is_private(self):
+        more = {"other/src/lib.rt": "mod parts;\npub use parts::{Shelf, lend};\n", "other/src/parts.rt": PARTS}
+        self.assertEqual(self.said("| a | `lend`; `Shelf::hold` | `lent`; `held` |", more=more), [])
+        self.assertEqual(self.said("| a | `take` | `taken` |", more=more), ["README.md:3: `take` is private"])
+        self.assertEqual(self.said("| a | `keep` | `kept` |", more=more), ["README.md:3: `keep` is private"])
+        self.assertEqual(self.said("| a | `other::forgotten` | `gone` |", more=more),
+                         ["README.md:3: `other::forgotten` is private"])
+        self.assertEqual(self.said("| a | `Shelf::drop` | `dropped` |", more=more),
+                         ["README.md:3: `Shelf::drop` is private"])
+        self.assertEqual(self.said("| a | `Drawer::shut` | `closed` |", more=more),
+                         ["README.md:3: `Drawer::shut` is private"])
+        self.assertEqual(self.said("| a | a law | `nothing_is_lost` |", more=more),
+                         ["README.md:3: `nothing_is_lost` is private"])
+        self.assertEqual(self.said("| a | `go`, `take` of `other` | `ok`; `taken` |", more=more),
+                         ["README.md:3: `take` is private"])
+        self.assertEqual(self.said("- `take` takes (`taken`).", header="", more=more), ["README.md:1: `take` is private"])
+        self.assertEqual(self.said("It never calls `other::take`.", header="", more=more),
+                         ["README.md:1: `other::take` is private"])
+        self.assertEqual(self.said("    $ `take`", "- `go` goes (`ok`).", header="", more=more), [])
+
+    def test_what_is_lent_on(self):
+        more = {"other/src/lib.rt": "pub mod parts;\n", "other/src/parts.rt": PARTS,
+                "third/src/lib.rt": "pub use other::lend;\npub use other::{\n    forgotten,\n    nothing_is_lost,\n};\n"}
+        self.assertEqual(self.said("| a | `third::lend`, `third::forgotten` | `lent`, `gone` |",
+                                   "| b | `Drawer::shut` | its one clause |",
+                                   "| c | laws of `third` | `nothing_is_lost` |", more=more), [])
+        self.assertEqual(self.said("| a | `other::take` | `taken` |", more=more), ["README.md:3: `other::take` is private"])
+        self.assertEqual(self.said("| a | `third::take` | `taken` |", more=more),
+                         ["README.md:3: no call `third::take`", "README.md:3: no clause `taken` on any call"])
+
+    def test_a_program(self):
+        more = {"tool/src/main.rt": "fn run()\n    ensures status { true }\n{}\n"}
+        self.assertEqual(self.said("| a | `run` of crates/tool | `status` |", more=more), [])
 
     def test_texts(self):
         header = "| call | what its clauses say | of |"
@@ -141,47 +215,6 @@ class Examples(ToolCase):
         text = "    $ provision a\n    a\n\n\n\n    tree-image 2\n    d / 0755 0 0 0,0,0,0 - - - -\n    end\n"
         self.assertEqual(self.said(text)[0], 0)
         self.assertEqual(self.said(text.replace("0755", "755"))[0], 1)
-
-
-DOCUMENTS = ("DIFFERENCES", "FORMAT", "MESSAGES", "PROMISES", "USAGE")
-
-
-class Installing(ToolCase):
-    def test_what_is_lacking_is_named(self):
-        (self.room / "top/tools").mkdir(parents=True)
-        for tool in ("install.sh", "tar_to_image.py", "image_to_tar.py", "tree_image.py"):
-            shutil.copy(TOOLS / tool, self.room / "top/tools")
-        done = subprocess.run([self.room / "top/tools/install.sh", "/none"], capture_output=True, text=True,
-                              check=False, env={"PATH": "/usr/bin:/bin", "DESTDIR": str(self.room / "to")})
-        top = self.room / "top"
-        self.assertEqual(done.stderr.splitlines(), [
-            "install: /none is lacking", f"install: {top}/tools/tar_stream.py is lacking",
-            f"install: {top}/tools/tree_folder.py is lacking",
-            f"install: {top}/man/provision.1 is lacking", f"install: {top}/man/tree-image.5 is lacking"]
-            + [f"install: {top}/docs/{name}.md is lacking" for name in DOCUMENTS])
-        self.assertEqual(done.returncode, 1)
-        self.assertFalse((self.room / "to").exists())
-
-    def test_what_is_installed(self):
-        top, to = self.room / "top", self.room / "to"
-        shutil.copytree(TOOLS, top / "tools", ignore=shutil.ignore_patterns("__pycache__"))
-        (top / "man").mkdir()
-        for page in ("provision.1", "tree-image.5"):
-            (top / "man" / page).write_text(".Dd x\n")
-        (top / "docs").mkdir()
-        for name in DOCUMENTS:
-            (top / "docs" / f"{name}.md").write_text("# x\n")
-        program = self.room / "program"
-        program.write_text("#!/bin/sh\n")
-        subprocess.run([top / "tools/install.sh", program], check=True, capture_output=True,
-                       env={"PATH": "/usr/bin:/bin", "DESTDIR": str(to), "PREFIX": "/usr"})
-        text = b"tree-image 2\nd / 0755 0 0 0,0,0,0 - - - -\nend\n"
-        made = subprocess.run([to / "usr/bin/image_to_tar"], input=text, capture_output=True, check=True).stdout
-        again = subprocess.run([to / "usr/bin/tar_to_image"], input=made, capture_output=True, check=True).stdout
-        self.assertEqual(again, text)
-        self.assertTrue((to / "usr/bin/provision").stat().st_mode & 0o111)
-        self.assertTrue((to / "usr/share/man/man5/tree-image.5").is_file())
-        self.assertTrue((to / "usr/share/doc/provision/FORMAT.md").is_file())
 
 
 if __name__ == "__main__":

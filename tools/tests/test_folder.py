@@ -1,12 +1,16 @@
 """Trees in folders: from an archive into a folder, and back."""
 
 import os
+import tarfile
 import unittest
+from contextlib import redirect_stderr
+from hashlib import sha256
+from io import BytesIO, StringIO
 
 from tests.helper import ToolCase, archive, file_member, folder_member, image
 from tar_stream import Member
-from tree_folder import FolderReader
-from tree_image import Trouble
+from tree_folder import FolderReader, write_folder
+from tree_image import Node, Notices, Trouble
 
 LARGE = b"x" * (3 << 20)
 
@@ -66,8 +70,64 @@ class Folders(ToolCase):
         self.write(archive((file_member(b"\xff"), b"")), said=said, status=1)
 
     def test_more_bytes_than_a_run_takes(self):
-        said = b"tar_to_image: warning: 1 objects with 67108865 bytes; the program takes 1000000 with 67108864\n"
-        self.write(archive((file_member(b"large"), bytes(67108865))), said=said)
+        tar = archive((file_member(b"large"), bytes(67108865)), (file_member(b"many"), b"m" * 70000),
+                      (file_member(b"few"), b"f" * 60000))
+        self.write(tar, said=b"tar_to_image: note: files over 65536 bytes stand aside in %s/contents, so that a run "
+                             b"takes the folder\n" % bytes(self.folder))
+        marker = b"provision-large-file sha256 %s length 67108865\n" % sha256(bytes(67108865)).hexdigest().encode()
+        self.assertEqual((self.folder / "tree/large").read_bytes(), marker)
+        self.assertEqual((self.folder / "tree/few").read_bytes(), b"f" * 60000)
+        self.assertEqual(len(os.listdir(self.folder / "contents")), 2)
+        (self.folder / "tree/copy").write_bytes(marker + b"more")
+        made = self.contents(self.read())
+        self.assertEqual(made["./large"], bytes(67108865))
+        self.assertEqual(made["./copy"], bytes(67108865) + b"more")
+        self.assertEqual(made["./many"], b"m" * 70000)
+
+    def contents(self, tar: bytes) -> dict[str, bytes]:
+        with tarfile.open(fileobj=BytesIO(tar)) as opened:
+            return {it.name: opened.extractfile(it).read() for it in opened.getmembers() if it.isfile()}
+
+    def test_contents_that_look_like_a_marker(self):
+        odd = b"provision-large-file sha256 " + b"0" * 64 + b" length 5\n"
+        tar = archive(folder_member(b"./"), (file_member(b"odd"), odd), (file_member(b"plain"), b"plain"))
+        self.write(tar)
+        self.assertEqual(self.contents(self.read()), {"./odd": odd, "./plain": b"plain"})
+        self.prepare_plain(odd)
+        self.assertEqual(self.contents(self.read())["./odd"], odd)
+
+    def prepare_plain(self, content: bytes) -> None:
+        """A folder by hand, with no contents aside, and one file."""
+        self.folder = self.room / "plain"
+        self.option = f"--folder={self.folder}"
+        (self.folder / "tree").mkdir(parents=True)
+        (self.folder / "tree/odd").write_bytes(content)
+
+    def test_a_marker_without_its_contents(self):
+        self.prepare_plain(b"provision-large-file sha256 " + b"0" * 64 + b" length 5\n")
+        (self.folder / "contents").mkdir()
+        self.to_tar(b"", self.option, status=1, said=b"image_to_tar: error: /odd: its contents are not in %s/contents\n"
+                    % bytes(self.folder))
+
+    def test_more_objects_than_a_run_takes(self):
+        nodes = [Node("d", b"/")] + [Node("d", b"/%d" % number) for number in range(1000001)]
+        with redirect_stderr(StringIO()) as said:
+            write_folder(str(self.folder), {}, nodes, None, Notices("it", strict=True))
+        self.assertEqual(said.getvalue(), "it: error: 1000001 objects with 0 bytes; the program takes 1000000 with "
+                                          "67108864\n")
+        self.assertFalse(self.folder.exists())
+
+    def test_hard_links_are_hard_links(self):
+        self.write(archive(folder_member(b"./"), (file_member(b"a"), LARGE), Member(b"b", b"1", target=b"a")), said=None)
+        self.assertEqual(os.stat(self.folder / "tree/b").st_nlink, 2)
+        with tarfile.open(fileobj=BytesIO(self.read())) as tar:
+            self.assertEqual([(it.name, it.linkname) for it in tar if it.islnk()], [("./b", "./a")])
+
+    def test_nobody_else_reads_it(self):
+        self.sh("umask 0; mkdir -m 777 it")
+        self.write(archive(folder_member(b"./"), folder_member(b"etc"), (file_member(b"etc/shadow"), b"x")))
+        for path in (self.folder / "tree", *self.folder.rglob("*")):
+            self.assertEqual(path.stat().st_mode & 0o77, 0, path)
 
     def test_options_that_do_not_go_together(self):
         for words in (("--inline=/a",), ("--inline-limit=9",)):

@@ -244,7 +244,7 @@ class Texts(unittest.TestCase):
         self.assertIsNone(read_marker(b"text"))
         text = b"provision-large-file sha256 " + b"0" * 64 + b" length 70000\nmore"
         marker, added = read_marker(text)
-        self.assertEqual((marker.sha256, marker.length, added), ("0" * 64, 70000, b"more"))
+        self.assertEqual((marker.name, marker.length, added), ("sha256 " + "0" * 64, 70000, b"more"))
         self.assertEqual(marker.text() + added, text)
 
 

@@ -1,16 +1,16 @@
-"""From a root file system through the built program to a new one; skipped where no program is named or built."""
+"""From a root file system through the built program to a new one; skipped where CHECK_PROGRAM names no program."""
 
-import os
 import subprocess
 import tarfile
 import unittest
 from io import BytesIO
-from pathlib import Path
 
-from tests.helper import TOOLS, ToolCase, archive, file_member, folder_member
+from tests.helper import ToolCase, archive, file_member, folder_member
+from tests.program import PROGRAM
 from tests.test_image_to_tar import WHOLE
 
-PROGRAM = Path(os.environ.get("CHECK_PROGRAM") or TOOLS.parent / "crates/provision/out/provision").resolve()
+from tar_stream import Member
+
 BIG = bytes(range(256)) * 4000
 LINES = (b"C /srv/copy - - - - /usr/share/big\n"
          b"w+ /usr/share/log - - - - more\n"
@@ -20,7 +20,7 @@ LINES = (b"C /srv/copy - - - - /usr/share/big\n"
          b"d /run/%m-%b 1777 app app\n")
 
 
-@unittest.skipUnless(PROGRAM.is_file(), f"no program at {PROGRAM}")
+@unittest.skipUnless(PROGRAM, "CHECK_PROGRAM names no program")
 class Runs(ToolCase):
     def setUp(self):
         super().setUp()
@@ -58,6 +58,24 @@ class Runs(ToolCase):
         self.assertEqual(big.pax_headers["SCHILY.xattr.user.k"], "v")
         folder = members["./run/0123456789abcdef0123456789abcdef-boot"]
         self.assertEqual((folder.uid, folder.gid, folder.mode, folder.mtime), (70, 71, 0o1777, 1000000))
+
+    def test_a_folder_whose_large_contents_stand_aside(self):
+        folder = self.room / "folder"
+        tar = archive(
+            folder_member(b"./"), folder_member(b"etc"), folder_member(b"etc/tmpfiles.d"),
+            (file_member(b"etc/tmpfiles.d/a.conf"), b"C /srv/copy - - - - /big\nw+ /log - - - - more\nd /run/x 0700 7 8\n"),
+            (file_member(b"big"), bytes(67108000)), (file_member(b"log"), BIG), folder_member(b"srv"),
+            (file_member(b"one"), b"x"), Member(b"two", b"1", target=b"one"))
+        self.old.write_bytes(tar)
+        self.to_image(b"", f"--folder={folder}", str(self.old), said=None)
+        done = subprocess.run([PROGRAM, "systemd-tmpfiles", "--create", f"--root={folder}"], capture_output=True, check=False)
+        self.assertEqual((done.returncode, done.stdout), (0, b""))
+        with tarfile.open(fileobj=BytesIO(self.to_tar(b"", f"--folder={folder}"))) as made:
+            sizes = {it.name: (it.size, it.type) for it in made}
+            self.assertEqual(made.extractfile("./log").read(), BIG + b"more")
+            self.assertEqual((made.getmember("./run/x").uid, made.getmember("./two").linkname), (7, "./one"))
+        self.assertEqual(sizes["./srv/copy"], (67108000, b"0"))
+        self.assertEqual(sizes["./big"], (67108000, b"0"))
 
     def test_an_image_is_spelled_as_the_program_spells_it(self):
         done = subprocess.run([PROGRAM, "systemd-tmpfiles", "--report"], input=WHOLE, capture_output=True, check=True)

@@ -1,0 +1,1 @@
+"""provision-image: one command for people who build system images, around the program `provision`."""
