@@ -2,7 +2,7 @@
 //! alone: what a run on a folder is measured against.
 #![tactic(auto)]
 
-use pv_host::{Host, HostFault, HostKind, RealHost};
+use pv_folder::{Host, HostFault, HostKind, RealHost};
 use std::alloc::{AllocError, Global};
 use std::process::ExitCode;
 

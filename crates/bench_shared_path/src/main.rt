@@ -2,8 +2,7 @@
 //! it asks so many times, so that the cost of a question can be measured.
 #![tactic(auto)]
 
-use pv_glob::parse_pattern;
-use pv_meet::{Reach, meet};
+use pv_glob::{Reach, meet, parse_pattern};
 use pv_path::{TreePath, print_path};
 use std::alloc::{AllocError, Global};
 use std::process::ExitCode;

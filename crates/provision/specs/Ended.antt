@@ -1,6 +1,6 @@
 -- How the program ends: it was given arguments, and its status is that of the outcome of their run.
 use Rattle.std.specs.Prelude.{◌≡◌, ◌⊎◌, ℕ, true, is_some, List, Option, Some, None, IfSome}
-use Rattle.pv_host.specs.Content.{spelled}
+use Rattle.pv_folder.specs.Content.{spelled}
 use Rattle.pv_words.specs.Invocation.{parse_args}
 use Rattle.pv_words.specs.Rooted.{rooted_of}
 use Rattle.pv_words.specs.declared.invocation.Invocation.TheVariants.{Generate}

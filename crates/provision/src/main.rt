@@ -13,7 +13,7 @@ ghost use Rattle.pv_words.specs.declared.invocation.Invocation.TheVariants.{Gene
 ghost use Rattle.provision.specs.Ended.{IsStatusOf};
 
 use provision_run::{provision_all, status};
-use pv_host::{Host, RealHost};
+use pv_folder::{Host, RealHost};
 use pv_io::{Sink, Source, StdSink, StdSource};
 use std::alloc::{AllocError, Global};
 use std::env::{self, Args};

@@ -2,14 +2,14 @@
 use Rattle.std.specs.Prelude.{◌≡◌, ℕ, ◌+◌, Bool, List, [], ◌∷◌, ◌++◌, length, Option, Some, None, Result, Ok, Err, OnOk, IfOk, IfErr, IsErrOf}
 use Rattle.std.specs.Option.{option_map_or}
 use Rattle.std.proofs.Common.{refl, sym, ap, subst, ◌∙◌, append-nil, append_assoc, arith, inl, inr, length-append}
-use Rattle.pv_accounts_run.specs.Accounted.{accounted, accounted_unless, accounts_messages, carried_files, edits_at, is_unusable, lacking_at, unusable_texts}
-use Rattle.pv_accounts_run.specs.FileWriting.{AccountWay, IsAccountStep, most_put, swept_names}
-use Rattle.pv_accounts_run.specs.Running.{IfLacking, Lacks, in_steps}
-use Rattle.pv_accounts_run.specs.declared.accounts_fault.AccountsFault.{AccountsFault}
-use Rattle.pv_accounts_run.specs.declared.accounts_fault.AccountsFault.TheVariants as fault
+use Rattle.pv_sysusers.specs.Accounted.{accounted, accounted_unless, accounts_messages, carried_files, edits_at, is_unusable, lacking_at, unusable_texts}
+use Rattle.pv_sysusers.specs.FileWriting.{AccountWay, IsAccountStep, most_put, swept_names}
+use Rattle.pv_sysusers.specs.Running.{IfLacking, Lacks, in_steps}
+use Rattle.pv_sysusers.specs.declared.accounts_fault.AccountsFault.{AccountsFault}
+use Rattle.pv_sysusers.specs.declared.accounts_fault.AccountsFault.TheVariants as fault
 use Rattle.pv_read_config.specs.Requested.{requested}
-use Rattle.pv_doing.specs.Courses.{carried_of}
-use Rattle.pv_doing.specs.declared.carried.Carried.{Carried}
+use Rattle.pv_steps.specs.Courses.{carried_of}
+use Rattle.pv_steps.specs.declared.carried.Carried.{Carried}
 use Rattle.pv_requests.specs.declared.request.Request.{Request}
 use Rattle.pv_steps.specs.declared.step.Step.{Step}
 use Rattle.pv_steps.specs.declared.tree.Tree.{Ghosts}

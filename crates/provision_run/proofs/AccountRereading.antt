@@ -3,10 +3,10 @@
 use Rattle.std.specs.Prelude.{◌^◌, ◌<◌, ◌≡◌, ℕ, List, length, take, drop}
 use Rattle.std.proofs.Common.{sym, ap, subst, ◌∙◌}
 use Rattle.std.proofs.Math.Seq.{drop-append_seam, drop-length, take-nil}
-use Rattle.pv_accounts_run.specs.Accounted.{accounted}
-use Rattle.pv_accounts_run.specs.FileWriting.{AccountWay, IsAccountStep}
-use Rattle.pv_accounts_run.specs.Mended.{EndAlike, IsMended}
-use Rattle.pv_accounts_run.proofs.BesideLaws.{edits_of_run}
+use Rattle.pv_sysusers.specs.Accounted.{accounted}
+use Rattle.pv_sysusers.specs.FileWriting.{AccountWay, IsAccountStep}
+use Rattle.pv_sysusers.specs.Mended.{EndAlike, IsMended}
+use Rattle.pv_sysusers.proofs.BesideLaws.{edits_of_run}
 use Rattle.pv_read_config.specs.Configuration.{Configured}
 use Rattle.pv_read_config.specs.Requested.{requested}
 use Rattle.pv_read_config.proofs.AllowedLaws.{requested_allowed}

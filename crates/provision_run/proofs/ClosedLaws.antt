@@ -7,8 +7,8 @@ use Rattle.pv_path.proofs.PathLaws.{not_prefix_not_same, same_path-no, same_path
 use Rattle.pv_steps.specs.Trees.{Files}
 use Rattle.pv_steps.specs.Steps.{after}
 use Rattle.pv_text.specs.Facts.{Values}
-use Rattle.pv_host.specs.Content.{Content, File, Held, held}
-use Rattle.pv_host.specs.declared.host.HostFault.{HostFault}
+use Rattle.pv_folder.specs.Content.{Content, File, Held, held}
+use Rattle.pv_folder.specs.declared.host.HostFault.{HostFault}
 use Rattle.pv_folder.specs.Folders.{Agrees, IsSameElse, manifest_path, new_manifest_path, tree_path}
 use Rattle.pv_folder.specs.Keeping.{HasManifest, IsAtMostAhead, IsClosed, IsSameButNew, IsSameOutside, ahead, level, with_manifest}
 use Rattle.pv_folder.specs.Manifest.{IsManifest, manifest_of}

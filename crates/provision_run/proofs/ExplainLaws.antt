@@ -1,7 +1,7 @@
 -- Laws of explanations: what is said of a path by lines that were read is an explanation of it.
 use Rattle.std.specs.Prelude.{◌≡◌, ℕ, false, List, Some, option_map}
 use Rattle.std.proofs.Common.{ap, subst, ◌∙◌}
-use Rattle.pv_metadata.specs.Nodes.{object_states_of}
+use Rattle.pv_walk.specs.Nodes.{object_states_of}
 use Rattle.pv_explain.specs.Acts.{acts, object_state_in, last, standing}
 use Rattle.pv_explain.specs.declared.explained.Explained.{Explained}
 use Rattle.pv_lines.specs.declared.line.Line.{Line}

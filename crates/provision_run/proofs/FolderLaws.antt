@@ -12,10 +12,10 @@ use Rattle.pv_steps.specs.Trees.{Files}
 use Rattle.pv_steps.specs.Counting.{faults_after, refused}
 use Rattle.pv_text.specs.Facts.{Values}
 use Rattle.pv_words.specs.declared.options.Options.{Options}
-use Rattle.pv_host.specs.Content.{Content, File, Held, IsContent, held}
-use Rattle.pv_host.specs.declared.host.HostFault.{HostFault}
-use Rattle.pv_host.specs.declared.host.HostFault.TheVariants as host
-use Rattle.pv_host.specs.Counts.{count_after}
+use Rattle.pv_folder.specs.Content.{Content, File, Held, IsContent, held}
+use Rattle.pv_folder.specs.declared.host.HostFault.{HostFault}
+use Rattle.pv_folder.specs.declared.host.HostFault.TheVariants as host
+use Rattle.pv_folder.specs.Counts.{count_after}
 use Rattle.pv_folder.specs.Folders.{Agrees, manifest_path}
 use Rattle.pv_folder.specs.Keeping.{IsAtMostAhead, IsClosed, IsSameButNew, Keeps, Moves, level}
 use Rattle.pv_folder.specs.Manifest.{IsManifest, manifest_of}

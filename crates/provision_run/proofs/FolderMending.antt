@@ -6,13 +6,13 @@ use Rattle.pv_folder.specs.Folders.{real_in}
 use Rattle.pv_folder.specs.Manifest.{manifest_of}
 use Rattle.pv_folder.specs.Merge.{merged}
 use Rattle.pv_folder.specs.Opening.{IsOpened, Says, absent, present}
-use Rattle.pv_host.specs.Content.{Content, Held, held, spelled}
-use Rattle.pv_host.specs.Content as host
+use Rattle.pv_folder.specs.Content.{Content, Held, held, spelled}
+use Rattle.pv_folder.specs.Content as host
 use Rattle.pv_image.proofs.ImageLaws.{one_image}
 use Rattle.pv_image.specs.Emptied.{with_empty_files}
 use Rattle.pv_image.specs.Images.{IsImage}
 use Rattle.pv_path.specs.Paths.{Path}
-use Rattle.pv_phases.specs.Phases.{phases_of}
+use Rattle.provision_run.specs.Phases.{phases_of}
 use Rattle.pv_steps.specs.Same.{Same}
 use Rattle.pv_steps.specs.Trees.{Files}
 use Rattle.pv_text.specs.Facts.{Values}

@@ -2,13 +2,13 @@
 use Rattle.std.specs.Prelude.{◌≡◌, ℕ, List, length, take, drop}
 use Rattle.std.proofs.Common.{ap, ◌∙◌}
 use Rattle.std.proofs.Math.Seq.{drop-length, take-nil}
-use Rattle.pv_accounts_run.specs.Accounted.{edits_at}
-use Rattle.pv_accounts_run.specs.FileWriting.{AccountWay}
-use Rattle.pv_accounts_run.proofs.BesideLaws.{edits_of_run, way_beside}
-use Rattle.pv_metadata.specs.Nodes.{object_states_of}
-use Rattle.pv_metadata.proofs.OperationLaws.{object_states_of-same}
+use Rattle.pv_sysusers.specs.Accounted.{edits_at}
+use Rattle.pv_sysusers.specs.FileWriting.{AccountWay}
+use Rattle.pv_sysusers.proofs.BesideLaws.{edits_of_run, way_beside}
+use Rattle.pv_walk.specs.Nodes.{object_states_of}
+use Rattle.pv_walk.proofs.OperationLaws.{object_states_of-same}
 use Rattle.pv_path.specs.Paths.{Path}
-use Rattle.pv_remove.proofs.StopLaws.{told_prefix}
+use Rattle.pv_table.proofs.GoingLaws.{told_prefix}
 use Rattle.pv_requests.specs.declared.request.Request.{Request}
 use Rattle.pv_steps.specs.declared.step.Step.{Step}
 use Rattle.pv_steps.specs.Runs.{after_all, Ran}

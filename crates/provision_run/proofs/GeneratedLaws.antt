@@ -3,9 +3,9 @@ use Rattle.std.proofs.Common.{◌≡◌, ◌↔◌, ◌∙◌, ℕ, List, [], �
 use Rattle.std.specs.FinMap as fin
 use Rattle.pv_read_config.specs.Known.{configured}
 use Rattle.pv_lines.specs.declared.line.Line.{Line}
-use Rattle.pv_report.specs.Reporting.{ListsOverlaps, ListsReasons}
-use Rattle.pv_report.specs.GivenMessages.{verdict}
-use Rattle.pv_report.specs.declared.listing.Report.{Report}
+use Rattle.pv_overlap.specs.Reporting.{ListsOverlaps, ListsReasons}
+use Rattle.pv_overlap.specs.GivenMessages.{verdict}
+use Rattle.pv_overlap.specs.declared.listing.Report.{Report}
 use Rattle.pv_steps.specs.Trees.{Files}
 use Rattle.pv_table.specs.Repeatable.{IsRepeatable}
 use Rattle.pv_text.specs.Facts.{Values}

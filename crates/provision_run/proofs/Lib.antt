@@ -1,3 +1,10 @@
+pub mod BootCalls
+pub mod BootLaws
+pub mod PhaseFrameLaws
+pub mod InputLaws
+pub mod PhaseLaws
+pub mod SweptLaws
+pub mod WayLaws
 pub mod AccountInput
 pub mod AccountLaws
 pub mod AccountRereading

@@ -7,9 +7,9 @@ use Rattle.pv_layers.specs.Choices.{chosen}
 use Rattle.pv_lines.specs.declared.line.Line.{Line}
 use Rattle.pv_path.specs.Paths.{Path}
 use Rattle.pv_path.specs.Printing.{printed_path}
-use Rattle.pv_report.specs.Reporting.{ListsOverlaps, ListsReasons}
-use Rattle.pv_report.specs.GivenMessages.{SaysRepeatable, report_messages}
-use Rattle.pv_report.specs.declared.listing.Report.{Report}
+use Rattle.pv_overlap.specs.Reporting.{ListsOverlaps, ListsReasons}
+use Rattle.pv_overlap.specs.GivenMessages.{SaysRepeatable, report_messages}
+use Rattle.pv_overlap.specs.declared.listing.Report.{Report}
 use Rattle.pv_steps.specs.Trees.{Files}
 use Rattle.pv_table.specs.Repeatable.{IsRepeatable}
 use Rattle.pv_text.specs.Facts.{Values}

@@ -7,14 +7,14 @@ use Rattle.std.specs.List.{AllByRecursion}
 use Rattle.pv_read_config.specs.Configuration.{Configured}
 use Rattle.pv_read_config.specs.Known.{configured}
 use Rattle.pv_read_config.proofs.InputLaws.{configured-same}
-use Rattle.pv_doing.specs.Courses.{Partway, IsStepOfSome}
+use Rattle.pv_steps.specs.Courses.{Partway, IsStepOfSome}
 use Rattle.pv_lines.specs.declared.line.Line.{Line}
 use Rattle.pv_lines.specs.Lines.{IsLine}
-use Rattle.pv_phases.specs.Phases.{IsMendedBy, phases_course, phases_of}
-use Rattle.pv_phases.proofs.InputLaws.{phases_leave_input}
-use Rattle.pv_phases.proofs.PhaseLaws.{both}
-use Rattle.pv_phases.specs.declared.phase.Phase.{Phase}
-use Rattle.pv_phases.specs.declared.phase.Phase.TheVariants.{Remove, Clean, Create, Purge}
+use Rattle.provision_run.specs.Phases.{IsMendedBy, phases_course, phases_of}
+use Rattle.provision_run.proofs.InputLaws.{phases_leave_input}
+use Rattle.provision_run.proofs.PhaseLaws.{both}
+use Rattle.provision_run.specs.declared.phase.Phase.{Phase}
+use Rattle.provision_run.specs.declared.phase.Phase.TheVariants.{Remove, Clean, Create, Purge}
 use Rattle.pv_steps.specs.declared.step.Step.{Step}
 use Rattle.pv_steps.specs.Runs.{after_all, Ran}
 use Rattle.pv_steps.specs.Same.{Same}
@@ -22,7 +22,7 @@ use Rattle.pv_steps.specs.Trees.{Files, IsTree}
 use Rattle.pv_steps.proofs.RunLaws.{along_trees, along_prefix}
 use Rattle.pv_table.specs.declared.reason.Reason.TheVariants as reason
 use Rattle.pv_table.specs.Active.{active}
-use Rattle.pv_table.specs.Created.{after_each}
+use Rattle.pv_steps.specs.Doing.{after_each}
 use Rattle.pv_text.specs.Facts.{Values}
 use Rattle.pv_words.specs.declared.options.Options.{Options}
 use Rattle.provision_run.specs.Rereading.{IsMendedAnew, IsReread, LeaveInput, MayMend, MayRepeat}

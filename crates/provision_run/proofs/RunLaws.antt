@@ -1,13 +1,13 @@
 -- Laws of a run over a tree: the active lines, and a run that has done nothing.
 use Rattle.std.specs.Prelude.{ℕ, Bool, true, false, cond, List, [], ◌∷◌, ◌++◌}
 use Rattle.std.specs.List.{AllByRecursion, list_any}
-use Rattle.pv_doing.proofs.CourseLaws.{partway_start}
+use Rattle.pv_steps.proofs.CourseLaws.{partway_start}
 use Rattle.pv_table.proofs.ListedLaws.{all_append}
 use Rattle.pv_lines.specs.declared.line.Line.{Line}
 use Rattle.pv_steps.specs.Trees.{Files}
 use Rattle.pv_table.specs.Active.{make_same, with_line}
-use Rattle.pv_phases.specs.Phases.{phases_course, phases_of}
-use Rattle.pv_phases.proofs.PhaseLaws.{phase_start}
+use Rattle.provision_run.specs.Phases.{phases_course, phases_of}
+use Rattle.provision_run.proofs.PhaseLaws.{phase_start}
 use Rattle.pv_text.specs.Facts.{Values}
 use Rattle.pv_words.specs.declared.options.Options.{Options}
 use Rattle.provision_run.specs.Phased.{phases_way, run_lines}

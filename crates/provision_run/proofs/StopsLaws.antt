@@ -2,17 +2,17 @@
 use Rattle.std.specs.Prelude.{◌≡◌, ℕ, List, [], ◌∷◌, length, take, Option}
 use Rattle.std.proofs.Common.{refl, sym, ap, subst, ◌∙◌}
 use Rattle.std.proofs.Math.Seq.{take-length}
-use Rattle.pv_accounts_run.specs.Accounted.{accounted, day_of}
-use Rattle.pv_accounts_run.specs.Mended.{EndAlike}
+use Rattle.pv_sysusers.specs.Accounted.{accounted, day_of}
+use Rattle.pv_sysusers.specs.Mended.{EndAlike}
 use Rattle.pv_image.specs.Images.{IsImage}
 use Rattle.pv_image.proofs.ImageLaws.{one_image}
 use Rattle.pv_laws.proofs.Moments.{quiet_same}
 use Rattle.pv_table.proofs.ListedLaws.{all_map}
 use Rattle.pv_lines.specs.declared.line.Line.{Line}
-use Rattle.pv_phases.proofs.BootLaws.{removed_same}
-use Rattle.pv_phases.specs.Phases.{phases_of}
-use Rattle.pv_phases.specs.declared.phase.Phase.{Phase}
-use Rattle.pv_phases.specs.declared.phase.Phase.TheVariants.{Remove, Clean, Create, Purge}
+use Rattle.provision_run.proofs.BootLaws.{removed_same}
+use Rattle.provision_run.specs.Phases.{phases_of}
+use Rattle.provision_run.specs.declared.phase.Phase.{Phase}
+use Rattle.provision_run.specs.declared.phase.Phase.TheVariants.{Remove, Clean, Create, Purge}
 use Rattle.pv_steps.specs.declared.step.Step.{Step}
 use Rattle.pv_steps.specs.Runs.{after_all}
 use Rattle.pv_steps.specs.Same.{Same}

@@ -2,15 +2,15 @@
 use Rattle.std.specs.Prelude.{◌≡◌, ℕ, Bool, true, false, List, [], ◌∷◌, ◌++◌, length, take, drop, is_some, Result, OnOk, IfOk}
 use Rattle.std.proofs.Common.{zero, suc, refl, sym, ap, subst, ◌∙◌, inl, inr, arith}
 use Rattle.std.proofs.Math.Seq.{drop-append_seam, drop-length, take-length}
-use Rattle.pv_accounts_run.specs.Accounted.{accounted}
-use Rattle.pv_accounts_run.specs.FileWriting.{AccountWay, IsAccountStep}
-use Rattle.pv_accounts_run.specs.Mended as accounts
-use Rattle.pv_accounts_run.specs.Swept as swept
+use Rattle.pv_sysusers.specs.Accounted.{accounted}
+use Rattle.pv_sysusers.specs.FileWriting.{AccountWay, IsAccountStep}
+use Rattle.pv_sysusers.specs.Mended as accounts
+use Rattle.pv_sysusers.specs.Swept as swept
 use Rattle.pv_create.specs.OnTheWay.{IsFramed}
-use Rattle.pv_phases.specs.OnTheWay.{GiveBy, IsBetweenBy}
-use Rattle.pv_doing.specs.Courses.{HasGone}
-use Rattle.pv_phases.specs.Phases.{IsMendedBy, phases_of}
-use Rattle.pv_phases.specs.Swept.{IsSweptBy}
+use Rattle.provision_run.specs.PhasesOnTheWay.{GiveBy, IsBetweenBy}
+use Rattle.pv_steps.specs.Courses.{HasGone}
+use Rattle.provision_run.specs.Phases.{IsMendedBy, phases_of}
+use Rattle.provision_run.specs.PhasesSwept.{IsSweptBy}
 use Rattle.pv_steps.specs.Acting.{Acted, refused}
 use Rattle.pv_steps.specs.declared.step.Step.{Step}
 use Rattle.pv_steps.specs.declared.tree.Tree.{Ghosts}

@@ -2,7 +2,7 @@
 use Rattle.std.specs.Prelude.{◌≡◌, ℕ, List, [], Option, Some, None, IfSome}
 use Rattle.std.proofs.Common.{refl, sym, ◌∙◌}
 use Rattle.std.specs.Io.KnownBytes.{Appends}
-use Rattle.pv_host.specs.Content.{spelled}
+use Rattle.pv_folder.specs.Content.{spelled}
 use Rattle.pv_words.specs.declared.rooted.Rooted.{Rooted}
 use Rattle.provision_run.specs.declared.outcome.Outcome.TheVariants.{Memory}
 use Rattle.provision_run.specs.OnFolder.{HasWrittenOn, HostState, before_steps}

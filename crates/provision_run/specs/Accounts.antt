@@ -2,16 +2,16 @@
 -- that it takes. The tree that it leaves, and the account files, are those of pv_accounts_run.
 use Rattle.std.specs.Prelude.{◌≡◌, ◌⊎◌, ℕ, ◌+◌, Bool, List, [], ◌∷◌, ◌++◌, codes, Option, Some, None, Result, Ok, Err}
 use Rattle.std.specs.Option.{option_map_or}
-use Rattle.pv_accounts_run.specs.declared.edit.Edit.{Edit}
-use Rattle.pv_accounts_run.specs.Accounted.{accounts_messages, edits_at, is_unusable, lacking_at}
-use Rattle.pv_accounts_run.specs.FileWriting.{most_put, swept_names}
-use Rattle.pv_accounts_run.specs.declared.accounts_fault.AccountsFault.{AccountsFault}
-use Rattle.pv_accounts_run.specs.declared.accounts_fault.AccountsFault.TheVariants as fault
+use Rattle.pv_sysusers.specs.declared.edit.Edit.{Edit}
+use Rattle.pv_sysusers.specs.Accounted.{accounts_messages, edits_at, is_unusable, lacking_at}
+use Rattle.pv_sysusers.specs.FileWriting.{most_put, swept_names}
+use Rattle.pv_sysusers.specs.declared.accounts_fault.AccountsFault.{AccountsFault}
+use Rattle.pv_sysusers.specs.declared.accounts_fault.AccountsFault.TheVariants as fault
 use Rattle.pv_read_config.specs.Requested.{requested}
-use Rattle.pv_doing.specs.declared.carried.Carried.{Carried}
+use Rattle.pv_steps.specs.declared.carried.Carried.{Carried}
 use Rattle.pv_steps.specs.declared.tree.TreeFault.{TreeFault}
 use Rattle.pv_steps.specs.declared.tree.TreeFault.TheVariants as step
-use Rattle.pv_doing.specs.Courses.{carried_of}
+use Rattle.pv_steps.specs.Courses.{carried_of}
 use Rattle.pv_path.specs.Printing.{printed}
 use Rattle.pv_requests.specs.declared.request.Request.{Request}
 use Rattle.pv_steps.specs.Trees.{Files, places}

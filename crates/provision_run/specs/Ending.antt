@@ -1,7 +1,7 @@
 -- How a run over a tree ends.
 use Rattle.std.specs.Prelude.{Bool, true, if◌then◌else◌}
-use Rattle.pv_doing.specs.declared.carried.Carried.{Carried}
-use Rattle.pv_doing.specs.declared.carried.Carried.TheVariants as carried
+use Rattle.pv_steps.specs.declared.carried.Carried.{Carried}
+use Rattle.pv_steps.specs.declared.carried.Carried.TheVariants as carried
 use Rattle.provision_run.specs.declared.ending.RunEnd.{RunEnd}
 use Rattle.provision_run.specs.declared.ending.RunEnd.TheVariants.{Done, ConfigInvalid, NotCarriedOut}
 

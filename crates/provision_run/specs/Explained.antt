@@ -2,7 +2,7 @@
 -- after them, each path judged by itself (tmpfiles.d(5)). The texts are this project's own.
 use Rattle.std.specs.Prelude.{◌≡◌, ◌⊎◌, ℕ, true, false, List, [], ◌∷◌, ◌++◌, codes, map, Option, Some, None, option_map}
 use Rattle.std.specs.Fmt.{decimal}
-use Rattle.pv_metadata.specs.Nodes.{object_states_of}
+use Rattle.pv_walk.specs.Nodes.{object_states_of}
 use Rattle.pv_explain.specs.Acts.{acts, object_state_in, last, standing}
 use Rattle.pv_explain.specs.declared.explained.Act.{Act}
 use Rattle.pv_explain.specs.declared.explained.Act.TheVariants.{Makes, Removes, Changes}

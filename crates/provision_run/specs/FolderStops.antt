@@ -2,7 +2,7 @@
 -- holds what one whole run leaves (systemd-tmpfiles(8), systemd-sysusers(8), `--root`).
 use Rattle.std.specs.Prelude.{◌≡◌, ℕ, List, ◌∷◌, [], Some}
 use Rattle.pv_folder.specs.Opening.{IsOpened}
-use Rattle.pv_host.specs.Content.{Content, held, spelled}
+use Rattle.pv_folder.specs.Content.{Content, held, spelled}
 use Rattle.pv_path.specs.Paths.{Path}
 use Rattle.pv_steps.specs.Trees.{Files}
 use Rattle.pv_text.specs.Facts.{Values}

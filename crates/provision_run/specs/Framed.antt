@@ -1,9 +1,9 @@
 -- What a run leaves as it was at each moment, whatever it answers (systemd-tmpfiles(8), systemd-sysusers(8)).
 use Rattle.std.specs.Prelude.{◌≡◌, ℕ, false, List, [], take}
-use Rattle.pv_accounts_run.specs.FileWriting.{account_paths}
-use Rattle.pv_accounts_run.specs.Edits.{etc}
+use Rattle.pv_sysusers.specs.FileWriting.{account_paths}
+use Rattle.pv_sysusers.specs.Edits.{etc}
 use Rattle.pv_create.specs.OnTheWay.{IsFramed}
-use Rattle.pv_metadata.specs.Nodes.{object_states_of}
+use Rattle.pv_walk.specs.Nodes.{object_states_of}
 use Rattle.pv_path.specs.Paths.{Path, has_staging, same_path}
 use Rattle.pv_steps.specs.declared.step.Step.{Step}
 use Rattle.pv_steps.specs.Runs.{after_all}

@@ -1,3 +1,8 @@
+pub mod Booted
+pub mod Phases
+pub mod BootedAgain
+pub mod PhasesOnTheWay
+pub mod PhasesSwept
 pub mod Words
 pub mod Tasks
 pub mod Ending

@@ -9,9 +9,9 @@ use Rattle.pv_steps.specs.declared.tree.TreeFault.TheVariants as step
 use Rattle.pv_steps.specs.Trees.{Files}
 use Rattle.pv_text.specs.Facts.{Values}
 use Rattle.pv_words.specs.declared.options.Options.{Options}
-use Rattle.pv_host.specs.Content.{Content, File, Held, held}
-use Rattle.pv_host.specs.declared.host.HostFault.{HostFault}
-use Rattle.pv_host.specs.declared.host.HostFault.TheVariants as host
+use Rattle.pv_folder.specs.Content.{Content, File, Held, held}
+use Rattle.pv_folder.specs.declared.host.HostFault.{HostFault}
+use Rattle.pv_folder.specs.declared.host.HostFault.TheVariants as host
 use Rattle.pv_folder.specs.declared.open_fault.OpenFault.{OpenFault}
 use Rattle.pv_folder.specs.declared.open_fault.OpenFault.TheVariants as fault
 use Rattle.pv_folder.specs.Folders.{Agrees, manifest_path, new_manifest_path, tree_path}

@@ -1,7 +1,7 @@
 -- What a run has left at each moment and what each of its steps gives, by what its options ask for (systemd-tmpfiles(8)).
 use Rattle.std.specs.Prelude.{ℕ, List, ⊤}
-use Rattle.pv_phases.specs.OnTheWay.{GiveBy, IsBetweenBy}
-use Rattle.pv_phases.specs.Phases.{phases_of}
+use Rattle.provision_run.specs.PhasesOnTheWay.{GiveBy, IsBetweenBy}
+use Rattle.provision_run.specs.Phases.{phases_of}
 use Rattle.pv_steps.specs.declared.step.Step.{Step}
 use Rattle.pv_steps.specs.Trees.{Files}
 use Rattle.pv_text.specs.Facts.{Values}

@@ -1,16 +1,16 @@
 -- A whole run of systemd-tmpfiles(8) that carries out lines: the lines that it reads of the tree, the tree that its phases
 -- leave, what it says, how it ends, and the most steps that it takes.
 use Rattle.std.specs.Prelude.{ℕ, Bool, List, ◌++◌}
-use Rattle.pv_doing.specs.Courses.{Cut, Partway, IsStepOfSome, carried_of}
+use Rattle.pv_steps.specs.Courses.{Cut, Partway, IsStepOfSome, carried_of}
 use Rattle.pv_lines.specs.declared.line.Line.{Line}
 use Rattle.pv_text.specs.Facts.{Values}
 use Rattle.pv_steps.specs.declared.step.Step.{Step}
 use Rattle.pv_steps.specs.Trees.{Files}
 use Rattle.pv_read_config.specs.Known.{configured}
 use Rattle.pv_table.specs.Active.{active, duplicates}
-use Rattle.pv_table.specs.Created.{after_each, messages_for_each, one_is_refused, taken_by_each}
+use Rattle.pv_steps.specs.Doing.{after_each, messages_for_each, one_is_refused, taken_by_each}
 use Rattle.pv_words.specs.declared.options.Options.{Options}
-use Rattle.pv_phases.specs.Phases.{phases_course, phases_of}
+use Rattle.provision_run.specs.Phases.{phases_course, phases_of}
 use Rattle.provision_run.specs.declared.ending.RunEnd.{RunEnd}
 use Rattle.provision_run.specs.Ending.{end_of, is_uncarried}
 

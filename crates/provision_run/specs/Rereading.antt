@@ -1,8 +1,8 @@
 -- The stop laws of a run that reads its lines anew of the tree that a stopped run has left (tmpfiles.d(5), sysusers.d(5)).
 use Rattle.std.specs.Prelude.{◌≡◌, ℕ, false, List, [], ◌∷◌, take, ⊤}
 use Rattle.std.specs.List.{AllByRecursion}
-use Rattle.pv_accounts_run.specs.Accounted.{accounted}
-use Rattle.pv_accounts_run.specs.Mended.{EndAlike}
+use Rattle.pv_sysusers.specs.Accounted.{accounted}
+use Rattle.pv_sysusers.specs.Mended.{EndAlike}
 use Rattle.pv_read_config.specs.Inputs.{is_request_input}
 use Rattle.pv_read_config.specs.Known.{configured}
 use Rattle.pv_read_config.specs.Requested.{requested}
@@ -10,9 +10,9 @@ use Rattle.pv_layers.specs.Places.{is_input}
 use Rattle.pv_layers.specs.Inputs.{IsPlain}
 use Rattle.pv_laws.specs.Stopping.{CopiesNothing}
 use Rattle.pv_lines.specs.declared.line.Line.{Line}
-use Rattle.pv_phases.specs.Phases.{phases_of}
-use Rattle.pv_phases.specs.declared.phase.Phase.{Phase}
-use Rattle.pv_phases.specs.declared.phase.Phase.TheVariants.{Remove, Create, Purge}
+use Rattle.provision_run.specs.Phases.{phases_of}
+use Rattle.provision_run.specs.declared.phase.Phase.{Phase}
+use Rattle.provision_run.specs.declared.phase.Phase.TheVariants.{Remove, Create, Purge}
 use Rattle.pv_steps.specs.declared.step.Step.{Step}
 use Rattle.pv_steps.specs.Runs.{after_all}
 use Rattle.pv_steps.specs.Same.{Same}

@@ -2,11 +2,11 @@
 -- leaves (systemd-tmpfiles(8), systemd-sysusers(8)).
 use Rattle.std.specs.Prelude.{◌≡◌, ℕ, List, [], ◌∷◌, take, Some, None}
 use Rattle.std.specs.List.{AllByRecursion}
-use Rattle.pv_accounts_run.specs.Accounted.{day_of, text_at}
-use Rattle.pv_accounts_run.specs.FileWriting.{gshadow_path}
+use Rattle.pv_sysusers.specs.Accounted.{day_of, text_at}
+use Rattle.pv_sysusers.specs.FileWriting.{gshadow_path}
 use Rattle.pv_image.specs.Images.{IsImage}
 use Rattle.pv_layers.specs.Places.{group_path, passwd_path}
-use Rattle.pv_phases.specs.Phases.{phases_of}
+use Rattle.provision_run.specs.Phases.{phases_of}
 use Rattle.pv_steps.specs.declared.step.Step.{Step}
 use Rattle.pv_steps.specs.Runs.{after_all}
 use Rattle.pv_steps.specs.Same.{Same}

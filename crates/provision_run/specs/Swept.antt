@@ -1,8 +1,8 @@
 -- What a whole run leaves at staging names, by what its options ask for (systemd-tmpfiles(8), systemd-sysusers(8)).
 use Rattle.std.specs.Prelude.{ℕ, ⊤}
-use Rattle.pv_accounts_run.specs.Swept as accounts
-use Rattle.pv_phases.specs.Phases.{phases_of}
-use Rattle.pv_phases.specs.Swept.{IsSweptBy}
+use Rattle.pv_sysusers.specs.Swept as accounts
+use Rattle.provision_run.specs.Phases.{phases_of}
+use Rattle.provision_run.specs.PhasesSwept.{IsSweptBy}
 use Rattle.pv_steps.specs.Trees.{Files}
 use Rattle.pv_text.specs.Facts.{Values}
 use Rattle.pv_words.specs.declared.options.Options.{Options}

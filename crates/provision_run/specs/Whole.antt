@@ -1,11 +1,11 @@
 -- A whole run over a tree, by what its options ask for: the tree that it leaves, what it says, how it ends, and the most
 -- steps that it takes (systemd-tmpfiles(8), systemd-sysusers(8)).
 use Rattle.std.specs.Prelude.{◌≡◌, ◌⊎◌, ℕ, List, [], ◌++◌, ⊤}
-use Rattle.pv_accounts_run.specs.Accounted.{accounted}
-use Rattle.pv_accounts_run.specs.FileWriting.{AccountWay, IsAccountStep}
-use Rattle.pv_accounts_run.specs.Mended as accounts
+use Rattle.pv_sysusers.specs.Accounted.{accounted}
+use Rattle.pv_sysusers.specs.FileWriting.{AccountWay, IsAccountStep}
+use Rattle.pv_sysusers.specs.Mended as accounts
 use Rattle.pv_read_config.specs.Known.{configured}
-use Rattle.pv_phases.specs.Phases.{IsMendedBy, phases_of}
+use Rattle.provision_run.specs.Phases.{IsMendedBy, phases_of}
 use Rattle.pv_steps.specs.declared.step.Step.{Step}
 use Rattle.pv_steps.specs.Trees.{Files}
 use Rattle.pv_text.specs.Facts.{Values}

@@ -2,8 +2,8 @@
 ghost use Rattle.std.specs.Prelude.{◌≡◌};
 ghost use Rattle.provision_run.specs.Ending.{end_of, is_uncarried};
 
-use pv_doing::Carried;
 use pv_path::Bytes;
+use pv_steps::Carried;
 
 /// How a run over a tree ended that was not stopped.
 #[derive(Drop)]

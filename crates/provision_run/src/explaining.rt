@@ -6,12 +6,11 @@ ghost use Rattle.provision_run.specs.Reported.{report_end};
 
 use crate::ending::{RunEnd, end_of};
 use crate::run_input::read_run;
-use pv_doing::Carried;
 use pv_explain::{Act, Explained, LineAct, explain};
 use pv_image::print_node;
+use pv_overlap::place_text;
 use pv_path::{Bytes, TreePath, print_path};
-use pv_report::place_text;
-use pv_steps::{Node, Tree};
+use pv_steps::{Carried, Node, Tree};
 use pv_text::{Facts, Messages, say_all};
 use pv_words::Options;
 use std::alloc::{AllocError, Global};

@@ -1,8 +1,8 @@
 //! A run over a generated tree, of which three messages tell.
 ghost use Rattle.std.specs.Prelude.{◌≡◌, ◌↔◌, [], ◌∷◌, length, IfOk, OnOk};
 ghost use Rattle.std.specs.FinMap as fin;
-ghost use Rattle.pv_report.specs.Reporting.{ListsOverlaps, ListsReasons};
-ghost use Rattle.pv_report.specs.GivenMessages.{verdict};
+ghost use Rattle.pv_overlap.specs.Reporting.{ListsOverlaps, ListsReasons};
+ghost use Rattle.pv_overlap.specs.GivenMessages.{verdict};
 ghost use Rattle.pv_table.specs.Repeatable.{IsRepeatable};
 ghost use Rattle.provision_run.specs.Generated.{create_alone, created, created_text, generated_moment, generated_text, IsGenerated, IsToldOf, lines_in, no_facts, overlaps_text};
 ghost use Rattle.provision_run.specs.Messages.{messages_text};
@@ -13,9 +13,9 @@ use crate::message::add_message;
 use crate::run::run_on_tree;
 use pv_generate::{generated_tree, node_count};
 use pv_lines::LineList;
+use pv_overlap::{Report, report, verdict};
 use pv_path::WordList;
 use pv_read_config::read_configuration;
-use pv_report::{Report, report, verdict};
 use pv_steps::TreeFault;
 use pv_text::{Facts, Messages, Tool};
 use pv_tree::MemTree;

@@ -1,11 +1,11 @@
 //! Laws of runs that were stopped, however many. Each function does nothing; its contract is the law.
 ghost use Rattle.std.specs.Prelude.{◌≡◌, ◌∷◌, ℕ, List};
-ghost use Rattle.pv_accounts_run.specs.Accounted.{accounted};
+ghost use Rattle.pv_sysusers.specs.Accounted.{accounted};
 ghost use Rattle.pv_folder.specs.Opening.{IsOpened};
-ghost use Rattle.pv_host.specs.Content.{Content};
+ghost use Rattle.pv_folder.specs.Content.{Content};
 ghost use Rattle.pv_image.specs.Images.{IsImage};
 ghost use Rattle.pv_path.specs.Paths.{Path};
-ghost use Rattle.pv_phases.specs.Phases.{phases_of};
+ghost use Rattle.provision_run.specs.Phases.{phases_of};
 ghost use Rattle.pv_steps.specs.Same.{Same};
 ghost use Rattle.pv_steps.specs.Trees.{Files};
 ghost use Rattle.pv_text.specs.Facts.{Values};

@@ -3,6 +3,7 @@
 
 mod accounting;
 mod answer;
+mod boot;
 mod configured_phases;
 mod ending;
 mod explaining;
@@ -12,6 +13,8 @@ mod lent;
 mod message;
 mod on_folder;
 mod outcome;
+mod phase;
+mod phase_laws;
 mod reporting;
 mod run;
 mod run_input;
@@ -19,12 +22,18 @@ mod running;
 mod task;
 mod top;
 
+pub use boot::boot_run;
 pub use ending::RunEnd;
 pub use laws::{
     folders_of_stopped_runs_are_mended, outputs_of_stopped_runs_are_mended,
     trees_of_stopped_runs_are_mended,
 };
 pub use outcome::{Outcome, status};
-pub use pv_phases::boot_run;
+pub use phase::{Phase, phases_of, run_phases};
+pub use phase_laws::{
+    a_boot_cut_short_is_mended, a_boot_leaves_what_lines_are_read_from,
+    a_boot_on_its_way_removes_or_is_between_two_lines, boots_cut_short_again_and_again_are_mended,
+    what_no_line_governs_stays,
+};
 pub use run::run_on_tree;
 pub use top::{provision, provision_all};

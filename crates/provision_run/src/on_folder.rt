@@ -1,8 +1,8 @@
 //! A run on a folder of a host.
 ghost use Rattle.std.specs.Prelude.{◌≡◌, ◌∷◌, ◌⊎◌, [], false, Ok, Err, Some, IfOk, IfSome, IsErrOf, OnErr};
 ghost use Rattle.pv_io.specs.Faults.{HasRisen};
-ghost use Rattle.pv_host.specs.Content.{File, held, spelled};
-ghost use Rattle.pv_host.specs.declared.host.HostFault.TheVariants.{Failed, Memory};
+ghost use Rattle.pv_folder.specs.Content.{File, held, spelled};
+ghost use Rattle.pv_folder.specs.declared.host.HostFault.TheVariants.{Failed, Memory};
 ghost use Rattle.pv_folder.specs.Folders.{manifest_path};
 ghost use Rattle.pv_folder.specs.Keeping.{Keeps};
 ghost use Rattle.pv_folder.specs.Manifest.{manifest_of};
@@ -14,8 +14,7 @@ use crate::answer::{Answer, one_message};
 use crate::message::{bad_folder, print_messages};
 use crate::outcome::Outcome;
 use crate::running::run_limited;
-use pv_folder::{FolderTree, OpenFault, close_folder, read_folder};
-use pv_host::{Host, HostFault};
+use pv_folder::{FolderTree, Host, HostFault, OpenFault, close_folder, read_folder};
 use pv_image::Image;
 use pv_steps::TreeFault;
 use pv_text::{Facts, Messages};

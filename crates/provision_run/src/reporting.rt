@@ -3,11 +3,10 @@ ghost use Rattle.std.specs.Prelude.{◌≡◌, IfOk, OnOk};
 ghost use Rattle.provision_run.specs.Reported.{HasReported, HasReportedPart, report_end};
 
 use crate::ending::{RunEnd, end_of};
-use pv_doing::Carried;
 use pv_lines::LineList;
+use pv_overlap::{report, say_report};
 use pv_read_config::read_configuration;
-use pv_report::{report, say_report};
-use pv_steps::Tree;
+use pv_steps::{Carried, Tree};
 use pv_text::{Facts, Messages, say_all};
 use pv_words::Options;
 use std::alloc::{AllocError, Global};

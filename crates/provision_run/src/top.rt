@@ -3,7 +3,7 @@ ghost use Rattle.std.specs.Prelude.{◌≡◌, ◌⊎◌, ℕ, None, Some, true,
 ghost use Rattle.pv_io.specs.Faults.{HasRisen};
 ghost use Rattle.pv_words.specs.Invocation.{parse_args};
 ghost use Rattle.pv_words.specs.declared.invocation.Invocation.TheVariants.{Generate};
-ghost use Rattle.pv_host.specs.Content.{spelled};
+ghost use Rattle.pv_folder.specs.Content.{spelled};
 ghost use Rattle.pv_words.specs.Rooted.{rooted_of};
 ghost use Rattle.provision_run.specs.Answers.{HasWritten, HasWrittenGenerated};
 ghost use Rattle.provision_run.specs.OnFolder.{HasWrittenOn, is_of_folder};
@@ -11,7 +11,7 @@ ghost use Rattle.provision_run.specs.OnFolder.{HasWrittenOn, is_of_folder};
 use crate::answer::{NoAnswer, respond};
 use crate::on_folder::answer_folder;
 use crate::outcome::Outcome;
-use pv_host::Host;
+use pv_folder::Host;
 use pv_io::{Sink, Source, write_all_of};
 use pv_words::{Rooted, WordsFault, rooted_of};
 use std::alloc::Global;

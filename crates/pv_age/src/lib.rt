@@ -4,7 +4,6 @@
 mod age;
 mod age_fault;
 mod laws;
-mod old;
 mod stamps;
 mod sum;
 mod unit;
@@ -12,5 +11,4 @@ mod unit;
 pub use age::{Age, parse_age};
 pub use age_fault::AgeFault;
 pub use laws::printed_numbers_with_units_read_back_as_their_sum;
-pub use old::is_old;
 pub use stamps::StampSet;

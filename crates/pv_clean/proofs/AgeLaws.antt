@@ -12,15 +12,14 @@ use Rattle.pv_path.proofs.PathLaws.{parent_parts, is_prefix-refl}
 use Rattle.pv_steps.specs.declared.object.Object.{Object}
 use Rattle.pv_steps.specs.Same.{object_states}
 use Rattle.pv_steps.specs.Trees.{Files, places, IsAbsentIn}
-use Rattle.pv_metadata.specs.Edits.{Pruned}
+use Rattle.pv_walk.specs.Edits.{Pruned}
 use Rattle.pv_walk.specs.Removal.{is_one_of}
-use Rattle.pv_find.specs.Whole.{goes_whole}
-use Rattle.pv_find.proofs.FindingLaws.{one_of-tied, same_tied, any_more}
-use Rattle.pv_find.proofs.WholeLaws.{goes_parts, goes_from, all_at-each, push_length}
+use Rattle.pv_walk.specs.Whole.{goes_whole, all_at}
+use Rattle.pv_walk.proofs.FindingLaws.{one_of-tied, same_tied, any_more}
+use Rattle.pv_walk.proofs.WholeLaws.{goes_parts, goes_from, all_at-each, push_length}
 use Rattle.pv_table.specs.declared.scope.Scope.{Scope}
 use Rattle.pv_table.specs.Cleaned.{is_aged, is_old_by, may_go}
 use Rattle.pv_table.specs.Reaching.{names}
-use Rattle.pv_table.specs.Removed.{all_at}
 use Rattle.pv_table.specs.Scopes.{scope}
 use Rattle.pv_path.proofs.Tests.{same_tests}
 

@@ -11,11 +11,10 @@ use Rattle.pv_steps.specs.declared.tree.TreeFault.{TreeFault}
 use Rattle.pv_steps.specs.Runs.{Ran, after_all}
 use Rattle.pv_steps.specs.Trees.{Files}
 use Rattle.pv_steps.specs.Trying.{TriedAll}
-use Rattle.pv_metadata.specs.Edits.{Pruned}
-use Rattle.pv_find.specs.Whole.{goes_whole}
+use Rattle.pv_walk.specs.Edits.{Pruned}
+use Rattle.pv_walk.specs.Whole.{goes_whole}
 use Rattle.pv_table.specs.Cleaned.{is_aged, may_go}
-use Rattle.pv_remove.proofs.RunLaws.{goes_again}
-use Rattle.pv_remove.proofs.StopLaws.{told_prefix}
+use Rattle.pv_table.proofs.GoingLaws.{goes_again, told_prefix}
 use Rattle.pv_clean.specs.Cleaning.{TakesOnly}
 use Rattle.pv_clean.proofs.AgeLaws.{goes_aged, took}
 

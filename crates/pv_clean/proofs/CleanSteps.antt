@@ -19,7 +19,7 @@ use Rattle.pv_steps.proofs.TryingLaws.{AllAsk, ask_first, reverse-first}
 use Rattle.pv_steps.proofs.RunLaws.{after_all-append}
 use Rattle.pv_steps.proofs.StepLaws.{at_after, same_files}
 use Rattle.pv_steps.proofs.NameLaws.{child_name-push}
-use Rattle.pv_metadata.specs.Edits.{Pruned}
+use Rattle.pv_walk.specs.Edits.{Pruned}
 use Rattle.pv_walk.specs.Listing.{times, is_child, ParentsFirst}
 use Rattle.pv_walk.specs.Removal.{is_one_of, loses_child, removal, removal_at}
 use Rattle.pv_walk.proofs.CountLaws.{is_child-push, length-times, same_or_not, taken_out, times-append, times-filter, times-keys, times-self}
@@ -27,11 +27,11 @@ use Rattle.pv_walk.proofs.RemovalLaws.{cond-true, kept-object_state, kept-kind, 
 use Rattle.pv_walk.proofs.GatheredLaws.{gathered_filter}
 use Rattle.pv_walk.proofs.ListingLaws.{cond-le}
 use Rattle.pv_walk.proofs.Removing.{after_removal, removal_asks}
-use Rattle.pv_find.specs.Whole.{goes_whole}
-use Rattle.pv_find.proofs.FindingLaws.{children_pass}
-use Rattle.pv_find.proofs.WholeLaws.{all_at-each, goes_parts}
+use Rattle.pv_walk.specs.Whole.{goes_whole}
+use Rattle.pv_walk.proofs.FindingLaws.{children_pass}
+use Rattle.pv_walk.proofs.WholeLaws.{all_at-each, goes_parts}
 use Rattle.pv_table.specs.Removed.{files_without}
-use Rattle.pv_remove.proofs.StopLaws.{places-without}
+use Rattle.pv_table.proofs.GoingLaws.{places-without}
 use Rattle.pv_clean.specs.Cleaning.{clean_step, giving_back, is_task, most_steps, stays_and_loses, ArePlanned, GoAfter, IsCleanStep}
 use Rattle.pv_clean.proofs.AllListed.{IsWhole}
 use Rattle.pv_path.proofs.Tests.{true_not_false, none_of}

@@ -2,12 +2,11 @@
 -- is read there: what is cleaned goes by an age that a line gives it from above.
 use Rattle.std.specs.Prelude.{◌≡◌, ℕ, ◌+◌, ◌-◌, ◌==◌, ◌<◌, ◌≤◌, Bool, true, false, cond, not, ◌&&◌, ◌||◌, List, [], ◌∷◌, length, take, drop, Option, None, is_some, option_map, option_and_then}
 use Rattle.std.proofs.Common.{zero, suc, refl, sym, ap, ◌∙◌, arith}
-use Rattle.std.proofs.lemmas.Bool.{false_from_ne_true, true_from_ne_false}
+use Rattle.std.proofs.lemmas.Bool.{false_from_ne_true, true_from_ne_false, or_right, and_parts}
 use Rattle.std.proofs.lemmas.List.{take-take}
 use Rattle.std.specs.List.{list_all, list_any}
 use Rattle.std.specs.Option.{option_map_or, option_or}
 use Rattle.std.proofs.Math.Bool.{and-false}
-use Rattle.std.proofs.lemmas.Bool.{or_right, and_parts}
 use Rattle.pv_age.specs.declared.age.Age.{Age}
 use Rattle.pv_lines.specs.declared.line.Line.{Line}
 use Rattle.pv_path.specs.Paths.{has_names, Path, parent_of}
@@ -18,21 +17,21 @@ use Rattle.pv_steps.specs.Content.{alters, content_of}
 use Rattle.pv_steps.proofs.ContentLaws.{removal_inside}
 use Rattle.pv_steps.specs.Runs.{after_all, Ran}
 use Rattle.pv_steps.specs.Trees.{IsTree, Files, places}
-use Rattle.pv_metadata.specs.Edits.{Pruned}
-use Rattle.pv_find.proofs.WholeLaws.{all_at-each}
+use Rattle.pv_walk.specs.Edits.{Pruned}
+use Rattle.pv_walk.proofs.WholeLaws.{all_at-each}
 use Rattle.pv_table.specs.declared.reason.Reason.TheVariants as reason
 use Rattle.pv_table.specs.declared.scope.Scope.{Scope}
 use Rattle.pv_table.specs.ActionTable.{action_of, is_writing, sparing_of, taking_of}
 use Rattle.pv_table.specs.Cleaned.{is_aged, is_old_by, may_go}
 use Rattle.pv_table.specs.Reaching.{governs, is_creating, is_deep, names, spares_below, takes_below}
-use Rattle.pv_table.specs.Removed.{all_at}
+use Rattle.pv_walk.specs.Whole.{all_at}
 use Rattle.pv_layers.specs.Places.{is_input}
 use Rattle.pv_table.specs.Repeatable.{HasReason, takes_named}
 use Rattle.pv_table.specs.Scopes.{first_age, gives_age, inherited, is_exempting, is_sparing_itself, own_scope, scope_at, scope_of_first}
 use Rattle.pv_table.proofs.PlaceLaws.{first_place-none, missing}
 use Rattle.pv_clean.specs.Cleaning.{IsCleanStep}
-use Rattle.pv_remove.proofs.InputLaws.{MayChange, governs_below, kept_content, kept_on_run, none_passes}
-use Rattle.pv_remove.proofs.RunLaws.{any_weaken}
+use Rattle.pv_table.proofs.GoingInput.{MayChange, governs_below, kept_content, kept_on_run, none_passes}
+use Rattle.pv_table.proofs.GoingLaws.{any_weaken}
 use Rattle.pv_path.proofs.Tests.{true_not_false}
 
 -- ---- where no line gives an age

@@ -17,7 +17,7 @@ use Rattle.pv_walk.specs.Removal.{loses_child, removal_at}
 use Rattle.pv_walk.proofs.CountLaws.{child_parts, is_child-push, same_or_not, times-append, times-children, times-push, times-self}
 use Rattle.pv_walk.proofs.RemovalLaws.{cond-true, is_below-child, zero_or_more}
 use Rattle.pv_table.specs.Cleaned.{is_aged, may_go}
-use Rattle.pv_remove.proofs.SentenceLaws.{children_all}
+use Rattle.pv_table.proofs.ChildrenLaws.{children_all}
 use Rattle.pv_clean.specs.declared.aging.Judged.{Judged}
 use Rattle.pv_clean.specs.Cleaning.{clean_step, giving_back, is_task, ArePlanned}
 use Rattle.pv_clean.specs.Judging.{judged_at, noted, AreJudged}

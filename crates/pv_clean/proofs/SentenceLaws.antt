@@ -8,15 +8,15 @@ use Rattle.pv_path.specs.Paths.{Path, parent_of}
 use Rattle.pv_path.proofs.Tests.{same_tests}
 use Rattle.pv_steps.specs.declared.object.Object.{Object}
 use Rattle.pv_steps.specs.Trees.{Files, places, names_below, IsTree}
-use Rattle.pv_find.specs.Whole.{goes_whole}
-use Rattle.pv_find.proofs.WholeLaws.{goes_parts, goes_by_children, all_at-each}
+use Rattle.pv_walk.specs.Whole.{goes_whole}
+use Rattle.pv_walk.proofs.WholeLaws.{goes_parts, goes_by_children, all_at-each}
 use Rattle.pv_path.proofs.PathLaws.{is_prefix-refl}
 use Rattle.pv_table.specs.declared.scope.Scope.{Scope}
 use Rattle.pv_table.specs.Cleaned.{is_aged, is_old_by, may_go}
 use Rattle.pv_table.specs.Reaching.{names}
 use Rattle.pv_table.specs.Scopes.{scope}
-use Rattle.pv_remove.specs.Sentences.{children_go}
-use Rattle.pv_remove.proofs.SentenceLaws.{children_all, children_go-same, one_alone}
+use Rattle.pv_table.specs.Children.{children_go}
+use Rattle.pv_table.proofs.ChildrenLaws.{children_all, children_go-same, one_alone}
 use Rattle.pv_clean.specs.Sentences.{is_aged_by}
 use Rattle.pv_clean.proofs.AgeLaws.{goes_aged, below_root}
 

@@ -21,7 +21,7 @@ use Rattle.pv_walk.specs.Removal.{is_below, loses_child}
 use Rattle.pv_walk.proofs.CountLaws.{same_or_not, taken_out, times-append, times-self}
 use Rattle.pv_walk.proofs.ListingLaws.{cond-le}
 use Rattle.pv_walk.proofs.RemovalLaws.{cond-true, is_below-child, no_same, zero_or_more}
-use Rattle.pv_find.specs.Whole.{goes_whole}
+use Rattle.pv_walk.specs.Whole.{goes_whole}
 use Rattle.pv_clean.specs.Cleaning.{clean_step, is_task, ArePlanned, AreOnOneWay, GoAfter, IsCleanedInTurn, moments_of}
 use Rattle.pv_clean.proofs.CleanSteps.{child_lost, later, no_root, one-set, order_back, own_again, steps_work, worked, worked-append, worked-gone, worked-kept, worked-none, worked-same}
 

@@ -11,7 +11,7 @@ use Rattle.pv_steps.specs.Same.{object_states}
 use Rattle.pv_steps.specs.Trees.{Files, places, IsAbsentIn, IsPresent}
 use Rattle.pv_walk.specs.Listing.{times, is_child, AreGathered}
 use Rattle.pv_walk.specs.Removal.{loses_child, removal_at}
-use Rattle.pv_find.specs.Whole.{count_of}
+use Rattle.pv_walk.specs.Whole.{count_of}
 
 -- a directory stays and loses a child
 abbrev pub stays_and_loses : (Path → Bool) → Files → Path → Bool

@@ -7,7 +7,7 @@ use Rattle.pv_steps.specs.Trees.{Files, places}
 use Rattle.pv_table.specs.Cleaned.{is_old_by}
 use Rattle.pv_table.specs.Reaching.{names}
 use Rattle.pv_table.specs.Scopes.{scope}
-use Rattle.pv_remove.specs.Sentences.{children_go}
+use Rattle.pv_table.specs.Children.{children_go}
 
 -- a present path other than the root is aged where no line names it, what stands there is old by the age of the directory in
 -- which it stands, which does not spare it, and it is no directory or all that stands in it is aged

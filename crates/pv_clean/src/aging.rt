@@ -11,12 +11,10 @@ ghost use Rattle.pv_table.specs.Scopes.{scope};
 ghost use Rattle.pv_clean.specs.Judging.{judged_at, AreJudged, AreNoted};
 
 use crate::naming::all_named;
-use pv_age::is_old;
-use pv_find::is_among;
 use pv_path::TreePath;
 use pv_steps::{Tree, is_directory};
-use pv_table::{Scope, Table, scope_of};
-use pv_walk::below;
+use pv_table::{Scope, Table, is_old, scope_of};
+use pv_walk::{below, is_among};
 use std::alloc::{AllocError, Global};
 use std::collections::BTreeSet;
 

@@ -1,7 +1,7 @@
 //! The clean phase.
 ghost use Rattle.std.specs.Prelude.{◌≡◌, drop, length, OnOk};
 ghost use Rattle.pv_steps.specs.Acting.{Acted};
-ghost use Rattle.pv_metadata.specs.Edits.{Pruned};
+ghost use Rattle.pv_walk.specs.Edits.{Pruned};
 ghost use Rattle.pv_table.specs.Cleaned.{cleaned, is_aged};
 ghost use Rattle.pv_clean.specs.Cleaning.{most_steps, IsCleanStep, IsCleanedInTurn, TakesOnly};
 

@@ -6,7 +6,7 @@ ghost use Rattle.pv_path.specs.Paths.{Path};
 ghost use Rattle.pv_steps.specs.Content.{content_of};
 ghost use Rattle.pv_steps.specs.Same.{object_states};
 ghost use Rattle.pv_steps.specs.Trees.{Files, places, IsAbsentIn, IsTree};
-ghost use Rattle.pv_metadata.specs.Edits.{Pruned};
+ghost use Rattle.pv_walk.specs.Edits.{Pruned};
 ghost use Rattle.pv_table.specs.declared.reason.Reason.TheVariants as reason;
 ghost use Rattle.pv_table.specs.Cleaned.{is_aged};
 ghost use Rattle.pv_layers.specs.Places.{is_input};

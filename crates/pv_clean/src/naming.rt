@@ -6,10 +6,10 @@ ghost use Rattle.pv_steps.specs.Trees.{places};
 ghost use Rattle.pv_walk.specs.Removal.{is_one_of};
 ghost use Rattle.pv_table.specs.Reaching.{names};
 
-use pv_find::named_paths;
 use pv_lines::Line;
 use pv_path::TreePath;
 use pv_steps::Tree;
+use pv_table::named_paths;
 use std::alloc::{AllocError, Global};
 use std::collections::BTreeSet;
 

@@ -8,7 +8,7 @@ use Rattle.pv_path.proofs.PathLaws.{length-parent_of}
 use Rattle.pv_steps.specs.declared.object.Object.{Object}
 use Rattle.pv_steps.specs.Trees.{Files, places, IsTree}
 use Rattle.pv_steps.proofs.StepLaws.{is_among}
-use Rattle.pv_metadata.proofs.EditLaws.{path_cases}
+use Rattle.pv_walk.proofs.EditLaws.{path_cases}
 use Rattle.pv_walk.specs.Preparing.{IsAbove, parents_of}
 use Rattle.pv_walk.proofs.PreparedLaws.{among_others, prepared_present}
 use Rattle.pv_walk.proofs.PreparingLaws.{above_take, take_parent}

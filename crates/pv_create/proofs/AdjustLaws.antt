@@ -21,16 +21,16 @@ use Rattle.pv_steps.proofs.ActingLaws.{Moves, ran-length}
 use Rattle.pv_steps.proofs.RunLaws.{ran_then, ran_weaken}
 use Rattle.pv_steps.specs.Steps.{on_at, put_at}
 use Rattle.pv_steps.specs.Trees.{Files, Places, places, kind_of, node_at, IsKind, IsPresent, IsTree}
-use Rattle.pv_metadata.specs.declared.object_state.ObjectState.{ObjectState}
-use Rattle.pv_metadata.specs.declared.object_state.Metadata.{Metadata}
-use Rattle.pv_metadata.specs.declared.operation.Operation.{Operation}
-use Rattle.pv_metadata.specs.Dividing.{parts}
-use Rattle.pv_metadata.specs.SettingMetadata.{IsMetadata, CanSetMetadata, with_metadata, with_attrs_of, with_first_changes, with_letters_of, SettingMetadata, GivesMetadata, IsChanged, IsKeptBy, ChangedAt, Lacks}
-use Rattle.pv_metadata.specs.Nodes.{object_state_of, object_states_of, is_file}
-use Rattle.pv_metadata.specs.Operations.{run}
-use Rattle.pv_metadata.specs.Changing.{Changing, with_access_of}
-use Rattle.pv_metadata.proofs.EditLaws.{path_cases, on_at-put, put_at-else, put_at-here, put_at-same, put_at-twice}
-use Rattle.pv_metadata.proofs.OperationLaws.{object_states_of-same}
+use Rattle.pv_walk.specs.declared.object_state.ObjectState.{ObjectState}
+use Rattle.pv_walk.specs.declared.object_state.Metadata.{Metadata}
+use Rattle.pv_walk.specs.declared.operation.Operation.{Operation}
+use Rattle.pv_walk.specs.Dividing.{parts}
+use Rattle.pv_walk.specs.SettingMetadata.{IsMetadata, CanSetMetadata, with_metadata, with_attrs_of, with_first_changes, with_letters_of, SettingMetadata, GivesMetadata, IsChanged, IsKeptBy, ChangedAt, Lacks}
+use Rattle.pv_walk.specs.Nodes.{object_state_of, object_states_of, is_file}
+use Rattle.pv_walk.specs.Operations.{run}
+use Rattle.pv_walk.specs.Changing.{Changing, with_access_of}
+use Rattle.pv_walk.proofs.EditLaws.{path_cases, on_at-put, put_at-else, put_at-here, put_at-same, put_at-twice}
+use Rattle.pv_walk.proofs.OperationLaws.{object_states_of-same}
 use Rattle.pv_table.specs.Created.{change_work, most_changed}
 use Rattle.pv_table.specs.Effects.{same_object_state, as_object_state, restamped, become}
 use Rattle.pv_create.specs.declared.wanted.Wanted.{Wanted}

@@ -12,13 +12,13 @@ use Rattle.pv_lines.proofs.ArgumentLaws.{entries_are, attrs_are, letters_are}
 use Rattle.pv_steps.specs.declared.node.Kind.{Kind}
 use Rattle.pv_steps.specs.declared.node.Kind.TheVariants.{Directory, File, Link, Fifo, CharDevice, BlockDevice}
 use Rattle.pv_steps.specs.Objects.{IsId}
-use Rattle.pv_metadata.specs.declared.operation.Change.TheVariants.{Write, Append, Owner}
-use Rattle.pv_metadata.specs.declared.operation.Guard.{Guard}
-use Rattle.pv_metadata.specs.declared.operation.Guard.TheVariants.{Every, NoLink, Only}
-use Rattle.pv_metadata.specs.declared.operation.Operation.{Operation}
-use Rattle.pv_metadata.specs.declared.operation.Operation.TheVariants.{Apply}
-use Rattle.pv_metadata.specs.Nodes.{is_file}
-use Rattle.pv_metadata.specs.Operations.{admits}
+use Rattle.pv_walk.specs.declared.operation.Change.TheVariants.{Write, Append, Owner}
+use Rattle.pv_walk.specs.declared.operation.Guard.{Guard}
+use Rattle.pv_walk.specs.declared.operation.Guard.TheVariants.{Every, NoLink, Only}
+use Rattle.pv_walk.specs.declared.operation.Operation.{Operation}
+use Rattle.pv_walk.specs.declared.operation.Operation.TheVariants.{Apply}
+use Rattle.pv_walk.specs.Nodes.{is_file}
+use Rattle.pv_walk.specs.Operations.{admits}
 use Rattle.pv_walk.specs.declared.new_file.NewKind.{NewKind}
 use Rattle.pv_walk.specs.declared.new_file.NewKind.TheVariants as new
 use Rattle.pv_walk.specs.Staging.{new_kind}

@@ -9,7 +9,7 @@ use Rattle.pv_steps.specs.declared.step.Step.{Step}
 use Rattle.pv_steps.specs.declared.step.Step.TheVariants.{MakeDir, MakeFile, MakeFifo, MakeDevice, MakeLink, Write, SetMode, SetOwner, SetAcl, SetAttrs, SetLetters, Rename, Unlink, RemoveDir}
 use Rattle.pv_steps.specs.Content.{alters}
 use Rattle.pv_steps.proofs.ContentLaws.{removal_inside}
-use Rattle.pv_metadata.specs.declared.object_state.ObjectState.{ObjectState}
+use Rattle.pv_walk.specs.declared.object_state.ObjectState.{ObjectState}
 use Rattle.pv_walk.specs.declared.new_file.NewFile.{NewFile}
 use Rattle.pv_walk.specs.Copying.{GivesObjectState}
 use Rattle.pv_walk.specs.Staging.{staging_names, is_under_any, GivesNew, IsPublishing}

@@ -17,21 +17,21 @@ use Rattle.pv_path.proofs.Tests.{true_not_false}
 use Rattle.pv_steps.specs.Objects.{is_directory}
 use Rattle.pv_steps.specs.Same.{Same}
 use Rattle.pv_steps.specs.Trees.{Files, places}
-use Rattle.pv_metadata.specs.declared.object_state.ObjectState.{ObjectState}
-use Rattle.pv_metadata.specs.declared.operation.Change.TheVariants.{Owner, Mode, Entries, Attrs, Letters}
-use Rattle.pv_metadata.specs.declared.operation.Guard.{Guard}
-use Rattle.pv_metadata.specs.declared.operation.Guard.TheVariants.{NoLink}
-use Rattle.pv_metadata.specs.declared.operation.Operation.{Operation}
-use Rattle.pv_metadata.specs.declared.operation.Operation.TheVariants.{Make, Renew, Erase, Apply}
-use Rattle.pv_metadata.specs.declared.operation.Test.{Test}
-use Rattle.pv_metadata.specs.Dividing.{base_line, parts_of, parts}
-use Rattle.pv_metadata.specs.Nodes.{object_state_of, object_states_of, same_kind}
-use Rattle.pv_metadata.specs.Operations.{admits, with_mode, changed, done, run}
-use Rattle.pv_metadata.specs.Reasons.{is_base, is_make, IsRepeatable as HasNoReason}
-use Rattle.pv_metadata.proofs.Dividing.{base_first, run-parts}
-use Rattle.pv_metadata.proofs.EditLaws.{path_cases}
-use Rattle.pv_metadata.proofs.OperationLaws.{object_states_of-same, object_states-same, run-twice}
-use Rattle.pv_metadata.proofs.PartChanges.{plain_twice, plain-part_after}
+use Rattle.pv_walk.specs.declared.object_state.ObjectState.{ObjectState}
+use Rattle.pv_walk.specs.declared.operation.Change.TheVariants.{Owner, Mode, Entries, Attrs, Letters}
+use Rattle.pv_walk.specs.declared.operation.Guard.{Guard}
+use Rattle.pv_walk.specs.declared.operation.Guard.TheVariants.{NoLink}
+use Rattle.pv_walk.specs.declared.operation.Operation.{Operation}
+use Rattle.pv_walk.specs.declared.operation.Operation.TheVariants.{Make, Renew, Erase, Apply}
+use Rattle.pv_walk.specs.declared.operation.Test.{Test}
+use Rattle.pv_walk.specs.Dividing.{base_line, parts_of, parts}
+use Rattle.pv_walk.specs.Nodes.{object_state_of, object_states_of, same_kind}
+use Rattle.pv_walk.specs.Operations.{admits, with_mode, changed, done, run}
+use Rattle.pv_walk.specs.Reasons.{is_base, is_make, IsRepeatable as HasNoReason}
+use Rattle.pv_walk.proofs.Dividing.{base_first, run-parts}
+use Rattle.pv_walk.proofs.EditLaws.{path_cases}
+use Rattle.pv_walk.proofs.OperationLaws.{object_states_of-same, object_states-same, run-twice}
+use Rattle.pv_walk.proofs.PartChanges.{plain_twice, plain-part_after}
 use Rattle.pv_lines.specs.declared.line.Argument.{Argument}
 use Rattle.pv_lines.specs.declared.line.Argument.TheVariants as argument
 use Rattle.pv_lines.specs.declared.line.Line.{Line}
@@ -49,14 +49,15 @@ use Rattle.pv_table.specs.declared.action.Making.{Making}
 use Rattle.pv_table.specs.declared.action.Adjustment.{Adjustment}
 use Rattle.pv_table.specs.Asked.{first_of, clears_below, operations}
 use Rattle.pv_table.specs.ActionTable.{id_to_set, without_links, mode_to_set, owners_and_mode, set_by, making as making_action, copying as copying_action, action_of}
-use Rattle.pv_table.specs.Created.{after_each, by_turn, by_line}
+use Rattle.pv_table.specs.Created.{by_turn, by_line}
+use Rattle.pv_steps.specs.Doing.{after_each}
 use Rattle.pv_table.specs.Effects.{carried_out, is_adjusted, turn_after, turns}
 use Rattle.pv_table.specs.Pointwise.{parent_object_state, after_turn}
 use Rattle.pv_table.specs.Reaching.{names, path_in, is_deep}
 use Rattle.pv_table.specs.Repeatable.{sets_of}
 use Rattle.pv_table.specs.Saying.{found}
 use Rattle.pv_table.specs.Turns.{Turn, View, Refused, view_of, copied, has_something, decide, making_turn, copying_turn, refused_at}
-use Rattle.pv_doing.specs.Courses.{Course, Partway}
+use Rattle.pv_steps.specs.Courses.{Course, Partway}
 use Rattle.pv_create.specs.Reached.{IsPartSet}
 use Rattle.pv_create.specs.OnWay.{OnWay, IsMidway, IsClearing, turn_at, sets_at, puts_parents, turn_course}
 use Rattle.pv_laws.specs.Copying.{IsCopyMidway, turn_of, OnWayOf, PartwayOf}

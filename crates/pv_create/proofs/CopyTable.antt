@@ -4,9 +4,9 @@ use Rattle.std.specs.List.{AllByRecursion}
 use Rattle.std.specs.Option.{option_map_or}
 use Rattle.std.proofs.Common.{refl, sym, ap, subst, ◌∙◌, arith}
 use Rattle.std.proofs.lemmas.Bool.Decides.{nat_tests}
-use Rattle.pv_metadata.specs.declared.operation.Guard.TheVariants.{Every, NoLink}
-use Rattle.pv_metadata.specs.declared.operation.Change.TheVariants.{Owner}
-use Rattle.pv_metadata.specs.declared.operation.Operation.TheVariants.{Apply}
+use Rattle.pv_walk.specs.declared.operation.Guard.TheVariants.{Every, NoLink}
+use Rattle.pv_walk.specs.declared.operation.Change.TheVariants.{Owner}
+use Rattle.pv_walk.specs.declared.operation.Operation.TheVariants.{Apply}
 use Rattle.pv_lines.specs.declared.line.Argument.{Argument}
 use Rattle.pv_lines.specs.declared.line.Argument.TheVariants as argument
 use Rattle.pv_lines.specs.declared.line.Line.{Line}

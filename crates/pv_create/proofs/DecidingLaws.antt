@@ -4,9 +4,9 @@ use Rattle.std.specs.List.{cons_option, list_all}
 use Rattle.std.specs.Option.{option_map_or}
 use Rattle.std.proofs.Common.{refl, sym, ap, ◌∙◌}
 use Rattle.std.proofs.Math.Bool.{not-not}
-use Rattle.pv_metadata.specs.declared.operation.Test.{Test}
-use Rattle.pv_metadata.specs.Nodes.{object_state_of, object_states_of, same_kind}
-use Rattle.pv_metadata.specs.Operations.{stays}
+use Rattle.pv_walk.specs.declared.operation.Test.{Test}
+use Rattle.pv_walk.specs.Nodes.{object_state_of, object_states_of, same_kind}
+use Rattle.pv_walk.specs.Operations.{stays}
 use Rattle.pv_path.specs.Names.{is_staging}
 use Rattle.pv_path.specs.Paths.{Path}
 use Rattle.pv_steps.specs.declared.node.Kind.{Kind}

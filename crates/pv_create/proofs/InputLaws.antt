@@ -13,18 +13,18 @@ use Rattle.pv_steps.specs.declared.node.Kind.TheVariants.{Directory}
 use Rattle.pv_steps.specs.declared.object.Object.{Object}
 use Rattle.pv_steps.specs.Content.{content_of}
 use Rattle.pv_steps.specs.Trees.{Files, places, IsTree}
-use Rattle.pv_metadata.specs.declared.object_state.ObjectState.{ObjectState}
-use Rattle.pv_metadata.specs.declared.operation.Change.{Change}
-use Rattle.pv_metadata.specs.declared.operation.Change.TheVariants.{Write, Append, Owner, Mode, Entries, Attrs, Letters}
-use Rattle.pv_metadata.specs.declared.operation.Guard.{Guard}
-use Rattle.pv_metadata.specs.declared.operation.Guard.TheVariants.{Every, Only}
-use Rattle.pv_metadata.specs.declared.operation.Operation.{Operation}
-use Rattle.pv_metadata.specs.declared.operation.Operation.TheVariants.{Make, Renew, Erase, Apply}
-use Rattle.pv_metadata.specs.Dividing.{base_line, parts_of, parts}
-use Rattle.pv_metadata.specs.Nodes.{object_state_of, object_states_of, carries_letters, is_link}
-use Rattle.pv_metadata.specs.Operations.{admits, changed, done, run}
-use Rattle.pv_metadata.specs.Reasons.{is_base}
-use Rattle.pv_metadata.proofs.OperationLaws.{object_states_of-same}
+use Rattle.pv_walk.specs.declared.object_state.ObjectState.{ObjectState}
+use Rattle.pv_walk.specs.declared.operation.Change.{Change}
+use Rattle.pv_walk.specs.declared.operation.Change.TheVariants.{Write, Append, Owner, Mode, Entries, Attrs, Letters}
+use Rattle.pv_walk.specs.declared.operation.Guard.{Guard}
+use Rattle.pv_walk.specs.declared.operation.Guard.TheVariants.{Every, Only}
+use Rattle.pv_walk.specs.declared.operation.Operation.{Operation}
+use Rattle.pv_walk.specs.declared.operation.Operation.TheVariants.{Make, Renew, Erase, Apply}
+use Rattle.pv_walk.specs.Dividing.{base_line, parts_of, parts}
+use Rattle.pv_walk.specs.Nodes.{object_state_of, object_states_of, carries_letters, is_link}
+use Rattle.pv_walk.specs.Operations.{admits, changed, done, run}
+use Rattle.pv_walk.specs.Reasons.{is_base}
+use Rattle.pv_walk.proofs.OperationLaws.{object_states_of-same}
 use Rattle.pv_acl.specs.declared.line.How.TheVariants.{Add}
 use Rattle.pv_lines.specs.declared.line.Argument.{Argument}
 use Rattle.pv_lines.specs.declared.line.Argument.TheVariants as argument
@@ -45,7 +45,7 @@ use Rattle.pv_table.specs.Created.{by_line}
 use Rattle.pv_table.specs.Reaching.{governs, is_creating, names}
 use Rattle.pv_layers.specs.Places.{is_input}
 use Rattle.pv_table.specs.Repeatable.{HasReason, IsAt, changes_content, takes_named}
-use Rattle.pv_doing.specs.Courses.{Partway}
+use Rattle.pv_steps.specs.Courses.{Partway}
 use Rattle.pv_laws.specs.Copying.{OnWayOf, copy_before, copy_done, other}
 use Rattle.pv_laws.specs.Stopping.{IsMidway}
 use Rattle.pv_laws.proofs.AllFrames.{each_kept, way_frame}

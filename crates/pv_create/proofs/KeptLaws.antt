@@ -7,18 +7,18 @@ use Rattle.pv_acl.specs.Parts.{base_of, special_of}
 use Rattle.pv_acl.specs.Parts as parts
 use Rattle.pv_acl.specs.declared.line.AclLine.{AclLine}
 use Rattle.pv_acl.specs.declared.line.How.{How}
-use Rattle.pv_metadata.specs.declared.object_state.ObjectState.{ObjectState}
-use Rattle.pv_metadata.specs.declared.operation.Change.{Change}
-use Rattle.pv_metadata.specs.declared.operation.Change.TheVariants.{Write, Owner, Mode, Entries}
-use Rattle.pv_metadata.specs.declared.operation.Guard.{Guard}
-use Rattle.pv_metadata.specs.declared.operation.Operation.{Operation}
-use Rattle.pv_metadata.specs.declared.operation.Operation.TheVariants.{Apply}
-use Rattle.pv_metadata.specs.Changing.{SameBase}
-use Rattle.pv_metadata.specs.Masks.{masked_special, with_masked}
-use Rattle.pv_metadata.specs.Nodes.{object_state_of, is_file}
-use Rattle.pv_metadata.specs.Operations.{admits, changed, done, run, with_mode}
-use Rattle.pv_metadata.proofs.EditLaws.{on_at-put, put_at-same}
-use Rattle.pv_metadata.proofs.OperationLaws.{run-append}
+use Rattle.pv_walk.specs.declared.object_state.ObjectState.{ObjectState}
+use Rattle.pv_walk.specs.declared.operation.Change.{Change}
+use Rattle.pv_walk.specs.declared.operation.Change.TheVariants.{Write, Owner, Mode, Entries}
+use Rattle.pv_walk.specs.declared.operation.Guard.{Guard}
+use Rattle.pv_walk.specs.declared.operation.Operation.{Operation}
+use Rattle.pv_walk.specs.declared.operation.Operation.TheVariants.{Apply}
+use Rattle.pv_walk.specs.Changing.{SameBase}
+use Rattle.pv_walk.specs.Masks.{masked_special, with_masked}
+use Rattle.pv_walk.specs.Nodes.{object_state_of, is_file}
+use Rattle.pv_walk.specs.Operations.{admits, changed, done, run, with_mode}
+use Rattle.pv_walk.proofs.EditLaws.{on_at-put, put_at-same}
+use Rattle.pv_walk.proofs.OperationLaws.{run-append}
 use Rattle.pv_path.specs.Paths.{Path}
 use Rattle.pv_steps.specs.declared.node.Kind.{Kind}
 use Rattle.pv_steps.specs.declared.node.Node.{Node}

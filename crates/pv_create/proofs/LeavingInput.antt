@@ -15,10 +15,10 @@ use Rattle.pv_steps.specs.Runs.{after_all}
 use Rattle.pv_steps.specs.Trees.{Files, places, IsTree, IsAbsentIn}
 use Rattle.pv_steps.proofs.ContentLaws.{content-after_all, removal_inside}
 use Rattle.pv_steps.proofs.TreeLaws.{present_above}
-use Rattle.pv_metadata.specs.declared.object_state.ObjectState.{ObjectState}
-use Rattle.pv_metadata.specs.declared.operation.Operation.{Operation}
-use Rattle.pv_metadata.specs.SettingMetadata.{GivesMetadata}
-use Rattle.pv_metadata.specs.Nodes.{object_state_of, object_states_of}
+use Rattle.pv_walk.specs.declared.object_state.ObjectState.{ObjectState}
+use Rattle.pv_walk.specs.declared.operation.Operation.{Operation}
+use Rattle.pv_walk.specs.SettingMetadata.{GivesMetadata}
+use Rattle.pv_walk.specs.Nodes.{object_state_of, object_states_of}
 use Rattle.pv_lines.specs.declared.line.Line.{Line}
 use Rattle.pv_lines.specs.Lines.{IsLine}
 use Rattle.pv_walk.specs.Copying.{Subtree}
@@ -41,7 +41,7 @@ use Rattle.pv_layers.specs.Places.{inputs, is_input}
 use Rattle.pv_table.specs.Repeatable.{HasReason}
 use Rattle.pv_table.specs.Saying.{found}
 use Rattle.pv_table.specs.Turns.{Turn, copied}
-use Rattle.pv_doing.specs.Courses.{Partway, IsStepOfSome}
+use Rattle.pv_steps.specs.Courses.{Partway, IsStepOfSome}
 use Rattle.pv_create.specs.Adjusting.{GivesBytes, GivesSet}
 use Rattle.pv_create.specs.OnWay.{IsStepOf, turn_at}
 use Rattle.pv_laws.proofs.AllFrames.{not_above, not_below, each_kept}

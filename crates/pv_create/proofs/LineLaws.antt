@@ -3,11 +3,11 @@
 use Rattle.std.specs.Prelude.{◌≡◌, ℕ, ◌+◌, ◌≤◌, ◌<◌, Bool, ◌||◌, List, [], ◌∷◌, length, drop, get_or, Result, Ok, Err, IsErrAnd, is_some}
 use Rattle.std.proofs.Common.{zero, suc, refl, sym, ap, subst, ◌∙◌, arith}
 use Rattle.pv_create.proofs.NamedLaws.{named_turns, stands_named, turn_keeps}
-use Rattle.pv_doing.specs.Courses.{each_of, carried_of, CarriesOut}
-use Rattle.pv_doing.specs.declared.carried.Carried.{Carried}
-use Rattle.pv_doing.specs.declared.carried.Carried.TheVariants.{Whole}
-use Rattle.pv_doing.proofs.CarryingLaws.{carried_none, Underway, underway_start, underway_failed, underway_next, underway_end}
-use Rattle.pv_doing.proofs.CourseLaws.{cut_start, none_left, partway_start, single_start}
+use Rattle.pv_steps.specs.Courses.{each_of, carried_of, CarriesOut}
+use Rattle.pv_steps.specs.declared.carried.Carried.{Carried}
+use Rattle.pv_steps.specs.declared.carried.Carried.TheVariants.{Whole}
+use Rattle.pv_steps.proofs.CarryingLaws.{carried_none, Underway, underway_start, underway_failed, underway_next, underway_end}
+use Rattle.pv_steps.proofs.CourseLaws.{cut_start, none_left, partway_start, single_start}
 use Rattle.pv_lines.specs.declared.line.Line.{Line}
 use Rattle.pv_create.specs.Actions.{IsTurn}
 use Rattle.pv_create.specs.OnWay.{plain_course, turn_course}

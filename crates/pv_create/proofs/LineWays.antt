@@ -2,7 +2,7 @@
 use Rattle.std.specs.Prelude.{◌≡◌, ℕ, List, [], ◌∷◌}
 use Rattle.std.proofs.Common.{refl, subst, inl, inr}
 use Rattle.pv_create.specs.Reached.{AdjustingInOrder, GivesReached}
-use Rattle.pv_doing.specs.Courses.{Course, Partway, IsStepOfSome, single}
+use Rattle.pv_steps.specs.Courses.{Course, Partway, IsStepOfSome, single}
 use Rattle.pv_lines.specs.declared.line.Line.{Line}
 use Rattle.pv_create.specs.OnWay.{OnWay, IsStepOf, IsStepAt, TurnWay, plain_course, turn_course}
 use Rattle.pv_path.specs.Paths.{Path}

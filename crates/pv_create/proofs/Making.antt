@@ -25,16 +25,16 @@ use Rattle.pv_steps.specs.declared.node.Kind.TheVariants.{Directory, File, Link,
 use Rattle.pv_steps.specs.Objects.{IsId, AclFits, AttrsFit, LettersFit, is_directory}
 use Rattle.pv_steps.proofs.ObjectLaws.{is_acl-with_mode, small_special}
 use Rattle.pv_steps.proofs.AttrPutting.{are_attrs-put_attr}
-use Rattle.pv_metadata.specs.declared.object_state.ObjectState.{ObjectState}
-use Rattle.pv_metadata.specs.declared.operation.Change.TheVariants.{Write, Append, Owner, Mode}
-use Rattle.pv_metadata.specs.declared.operation.Guard.{Guard}
-use Rattle.pv_metadata.specs.declared.operation.Operation.{Operation}
-use Rattle.pv_metadata.specs.declared.operation.Operation.TheVariants.{Apply}
-use Rattle.pv_metadata.specs.Dividing.{parts}
-use Rattle.pv_metadata.specs.SettingMetadata.{IsMetadata}
-use Rattle.pv_metadata.specs.Masks.{granted, with_masked, masked_special}
-use Rattle.pv_metadata.specs.Nodes.{carries_letters, is_file, is_link}
-use Rattle.pv_metadata.specs.Operations.{admits, changed, run}
+use Rattle.pv_walk.specs.declared.object_state.ObjectState.{ObjectState}
+use Rattle.pv_walk.specs.declared.operation.Change.TheVariants.{Write, Append, Owner, Mode}
+use Rattle.pv_walk.specs.declared.operation.Guard.{Guard}
+use Rattle.pv_walk.specs.declared.operation.Operation.{Operation}
+use Rattle.pv_walk.specs.declared.operation.Operation.TheVariants.{Apply}
+use Rattle.pv_walk.specs.Dividing.{parts}
+use Rattle.pv_walk.specs.SettingMetadata.{IsMetadata}
+use Rattle.pv_walk.specs.Masks.{granted, with_masked, masked_special}
+use Rattle.pv_walk.specs.Nodes.{carries_letters, is_file, is_link}
+use Rattle.pv_walk.specs.Operations.{admits, changed, run}
 use Rattle.pv_create.specs.Sets.{AtMostOne, SetsBytes, SetsOwners, SetsMode}
 use Rattle.pv_walk.proofs.CopiedLaws.{id_is}
 

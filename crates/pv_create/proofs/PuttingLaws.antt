@@ -7,12 +7,12 @@ use Rattle.std.proofs.Common.{refl, sym, ap, ◌∙◌, arith}
 use Rattle.std.proofs.lemmas.Bool.Decides.{nat_tests}
 use Rattle.std.proofs.lemmas.Bool.{and_parts}
 use Rattle.pv_create.specs.Sets.{AreSets}
-use Rattle.pv_metadata.specs.declared.object_state.ObjectState.{ObjectState}
-use Rattle.pv_metadata.specs.declared.object_state.Body.{Body}
-use Rattle.pv_metadata.specs.declared.operation.Operation.{Operation}
-use Rattle.pv_metadata.specs.declared.operation.Test.{Test}
-use Rattle.pv_metadata.specs.Nodes.{object_state_of, object_states_of, same_kind, same_substance}
-use Rattle.pv_metadata.specs.Operations.{admits, stays}
+use Rattle.pv_walk.specs.declared.object_state.ObjectState.{ObjectState}
+use Rattle.pv_walk.specs.declared.object_state.Body.{Body}
+use Rattle.pv_walk.specs.declared.operation.Operation.{Operation}
+use Rattle.pv_walk.specs.declared.operation.Test.{Test}
+use Rattle.pv_walk.specs.Nodes.{object_state_of, object_states_of, same_kind, same_substance}
+use Rattle.pv_walk.specs.Operations.{admits, stays}
 use Rattle.pv_lines.specs.declared.line.LineMode.{LineMode}
 use Rattle.pv_path.specs.Paths.{Path}
 use Rattle.pv_steps.specs.declared.node.Kind.{Kind}

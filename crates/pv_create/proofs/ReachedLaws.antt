@@ -23,16 +23,16 @@ use Rattle.pv_steps.specs.Steps.{on_at}
 use Rattle.pv_steps.specs.Trees.{Files, Places, places, IsPresent}
 use Rattle.pv_steps.proofs.ActingLaws.{Moves, well, acted_then, acted_weaken, acted_end}
 use Rattle.pv_steps.proofs.StepLaws.{same_files, places-tabulate, among_keys}
-use Rattle.pv_metadata.specs.declared.operation.Change.{Change}
-use Rattle.pv_metadata.specs.declared.operation.Guard.{Guard}
-use Rattle.pv_metadata.specs.declared.operation.Operation.{Operation}
-use Rattle.pv_metadata.specs.declared.operation.Operation.TheVariants.{Make, Renew, Erase, Apply}
-use Rattle.pv_metadata.specs.declared.object_state.ObjectState.{ObjectState}
-use Rattle.pv_metadata.specs.Dividing.{parts}
-use Rattle.pv_metadata.specs.SettingMetadata.{Lacks, GivesMetadata}
-use Rattle.pv_metadata.specs.Nodes.{object_state_of, object_states_of}
-use Rattle.pv_metadata.specs.Operations.{run}
-use Rattle.pv_metadata.proofs.EditLaws.{path_cases, on_at-else}
+use Rattle.pv_walk.specs.declared.operation.Change.{Change}
+use Rattle.pv_walk.specs.declared.operation.Guard.{Guard}
+use Rattle.pv_walk.specs.declared.operation.Operation.{Operation}
+use Rattle.pv_walk.specs.declared.operation.Operation.TheVariants.{Make, Renew, Erase, Apply}
+use Rattle.pv_walk.specs.declared.object_state.ObjectState.{ObjectState}
+use Rattle.pv_walk.specs.Dividing.{parts}
+use Rattle.pv_walk.specs.SettingMetadata.{Lacks, GivesMetadata}
+use Rattle.pv_walk.specs.Nodes.{object_state_of, object_states_of}
+use Rattle.pv_walk.specs.Operations.{run}
+use Rattle.pv_walk.proofs.EditLaws.{path_cases, on_at-else}
 use Rattle.pv_walk.specs.Listing.{times, stands_below, IsListing}
 use Rattle.pv_walk.proofs.CountLaws.{times-append, times-push, times-filter, times-keys, times-self, taken_out, one-same}
 use Rattle.pv_table.specs.declared.action.Adjustment.{Adjustment}
@@ -41,7 +41,7 @@ use Rattle.pv_table.specs.Effects.{become, is_adjusted, adjust_at}
 use Rattle.pv_create.specs.Adjusting.{Adjusting, GivesBytes, GivesSet}
 use Rattle.pv_create.specs.Reached.{AdjustingInOrder, AdjustingReached, AreReachedBelow, GivesReached, IsPartSet, IsReached}
 use Rattle.pv_create.specs.Sets.{AreSets, AtMostOne, SetsBytes, SetsMode, SetsOther, SetsOwners}
-use Rattle.pv_find.proofs.WholeLaws.{times-sum}
+use Rattle.pv_walk.proofs.WholeLaws.{times-sum}
 use Rattle.pv_laws.proofs.Comparing.{become-object_state}
 use Rattle.pv_laws.proofs.Sets.{adjusted_none, is_adjustment}
 

@@ -1,10 +1,10 @@
 -- Laws of a line at a path before it does anything: it is refused, and says so; or memory ran out.
 use Rattle.std.specs.Prelude.{◌≡◌, ℕ, List, [], ◌∷◌, ◌++◌, Some, is_some, Result, Ok, IsErrAnd}
 use Rattle.std.proofs.Common.{refl, sym, ap, ◌∙◌}
-use Rattle.pv_doing.specs.Courses.{carried_of, CarriesOut}
-use Rattle.pv_doing.specs.declared.carried.Carried.{Carried}
-use Rattle.pv_doing.specs.declared.carried.Carried.TheVariants.{NotCarriedOut}
-use Rattle.pv_doing.proofs.CarryingLaws.{single_none, single_messages}
+use Rattle.pv_steps.specs.Courses.{carried_of, CarriesOut}
+use Rattle.pv_steps.specs.declared.carried.Carried.{Carried}
+use Rattle.pv_steps.specs.declared.carried.Carried.TheVariants.{NotCarriedOut}
+use Rattle.pv_steps.proofs.CarryingLaws.{single_none, single_messages}
 use Rattle.pv_lines.specs.declared.line.Line.{Line}
 use Rattle.pv_path.specs.Paths.{Path}
 use Rattle.pv_steps.specs.declared.tree.Tree.{Ghosts}

@@ -1,11 +1,11 @@
 -- What one Rename can replace stands at the path of a line until what is put there comes.
 use Rattle.std.specs.Prelude.{◌≡◌, ◌⊎◌, ℕ, true, false, List, [], take}
 use Rattle.std.proofs.Common.{refl, sym, ap, subst, ◌∙◌, inl, inr}
-use Rattle.pv_metadata.specs.declared.operation.Operation.{Operation}
-use Rattle.pv_metadata.specs.Dividing.{parts}
-use Rattle.pv_metadata.specs.Nodes.{object_states_of}
-use Rattle.pv_metadata.specs.Operations.{run}
-use Rattle.pv_metadata.proofs.OperationLaws.{object_states_of-same}
+use Rattle.pv_walk.specs.declared.operation.Operation.{Operation}
+use Rattle.pv_walk.specs.Dividing.{parts}
+use Rattle.pv_walk.specs.Nodes.{object_states_of}
+use Rattle.pv_walk.specs.Operations.{run}
+use Rattle.pv_walk.proofs.OperationLaws.{object_states_of-same}
 use Rattle.pv_lines.specs.declared.line.Line.{Line}
 use Rattle.pv_path.specs.Paths.{Path, has_staging}
 use Rattle.pv_steps.specs.Same.{Same, object_states}

@@ -9,7 +9,8 @@ use Rattle.pv_table.proofs.ListedLaws.{left_of, order_at, same_length, there_of}
 use Rattle.pv_lines.specs.declared.line.Line.{Line}
 use Rattle.pv_steps.specs.Trees.{Files}
 use Rattle.pv_table.specs.Active.{ordered, create_order, in_create_order}
-use Rattle.pv_table.specs.Created.{by_line, by_line_that_counts, created, messages_for_each, taken_by_each}
+use Rattle.pv_table.specs.Created.{by_line, by_line_that_counts, created}
+use Rattle.pv_steps.specs.Doing.{messages_for_each, taken_by_each}
 use Rattle.pv_path.proofs.Tests.{on_ok}
 
 -- ---- a refusal that does not count changes nothing else

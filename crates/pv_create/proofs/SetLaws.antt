@@ -20,21 +20,21 @@ use Rattle.pv_steps.specs.declared.object.Object.{Object}
 use Rattle.pv_steps.specs.Attributes.{put_attrs}
 use Rattle.pv_steps.specs.Letters.{letters_after}
 use Rattle.pv_steps.specs.Objects.{fresh, is_directory}
-use Rattle.pv_metadata.specs.declared.object_state.ObjectState.{ObjectState}
-use Rattle.pv_metadata.specs.declared.object_state.Metadata.{Metadata}
-use Rattle.pv_metadata.specs.declared.operation.Change.TheVariants.{Entries, Attrs, Letters}
-use Rattle.pv_metadata.specs.declared.operation.Guard.{Guard}
-use Rattle.pv_metadata.specs.declared.operation.Operation.{Operation}
-use Rattle.pv_metadata.specs.declared.operation.Operation.TheVariants.{Apply}
-use Rattle.pv_metadata.specs.Dividing.{base_line, parts_of, parts}
-use Rattle.pv_metadata.specs.SettingMetadata.{IsMetadata, metadata_mode, with_metadata}
-use Rattle.pv_metadata.specs.Nodes.{carries_letters, is_link}
-use Rattle.pv_metadata.specs.Operations.{admits, changed, run}
-use Rattle.pv_metadata.specs.Reasons.{is_base}
-use Rattle.pv_metadata.proofs.Dividing.{base_first, run-parts, default_kept}
-use Rattle.pv_metadata.proofs.OperationLaws.{run-append}
-use Rattle.pv_metadata.proofs.PartChanges.{base-part_after}
-use Rattle.pv_metadata.proofs.ChangingLaws.{sets_metadata_mode}
+use Rattle.pv_walk.specs.declared.object_state.ObjectState.{ObjectState}
+use Rattle.pv_walk.specs.declared.object_state.Metadata.{Metadata}
+use Rattle.pv_walk.specs.declared.operation.Change.TheVariants.{Entries, Attrs, Letters}
+use Rattle.pv_walk.specs.declared.operation.Guard.{Guard}
+use Rattle.pv_walk.specs.declared.operation.Operation.{Operation}
+use Rattle.pv_walk.specs.declared.operation.Operation.TheVariants.{Apply}
+use Rattle.pv_walk.specs.Dividing.{base_line, parts_of, parts}
+use Rattle.pv_walk.specs.SettingMetadata.{IsMetadata, metadata_mode, with_metadata}
+use Rattle.pv_walk.specs.Nodes.{carries_letters, is_link}
+use Rattle.pv_walk.specs.Operations.{admits, changed, run}
+use Rattle.pv_walk.specs.Reasons.{is_base}
+use Rattle.pv_walk.proofs.Dividing.{base_first, run-parts, default_kept}
+use Rattle.pv_walk.proofs.OperationLaws.{run-append}
+use Rattle.pv_walk.proofs.PartChanges.{base-part_after}
+use Rattle.pv_walk.proofs.ChangingLaws.{sets_metadata_mode}
 use Rattle.pv_create.specs.Sets.{AreSets, AtMostOne, SetsOther}
 use Rattle.pv_create.proofs.Making.{with_payload, BytesMade, OwnersMade, ModeMade, bytes_made, owners_made, mode_made, fits_entries, fits_attrs, fits_letters}
 

@@ -3,8 +3,8 @@ use Rattle.std.specs.Prelude.{◌≡◌, ℕ, Bool, true, false, List, Some, Non
 use Rattle.std.proofs.Common.{refl, sym, ap, subst, inl, inr, ◌⊎◌}
 use Rattle.pv_create.specs.Adjusting.{Adjusting, GivesSet}
 use Rattle.pv_create.specs.Reached.{AdjustingInOrder, GivesReached}
-use Rattle.pv_metadata.specs.declared.operation.Operation.{Operation}
-use Rattle.pv_metadata.specs.Nodes.{object_states_of}
+use Rattle.pv_walk.specs.declared.operation.Operation.{Operation}
+use Rattle.pv_walk.specs.Nodes.{object_states_of}
 use Rattle.pv_path.specs.Paths.{Path, same_path}
 use Rattle.pv_path.proofs.Tests.{on_ok}
 use Rattle.pv_steps.specs.declared.node.Kind.{Kind}

@@ -11,14 +11,14 @@ use Rattle.pv_steps.specs.declared.step.Step.TheVariants.{MakeDir, MakeFile, Mak
 use Rattle.pv_steps.specs.Content.{Removes}
 use Rattle.pv_steps.specs.Runs.{Ran}
 use Rattle.pv_steps.specs.Trees.{Files, places, IsTree}
-use Rattle.pv_metadata.specs.declared.object_state.ObjectState.{ObjectState}
-use Rattle.pv_metadata.specs.declared.operation.Operation.TheVariants.{Make}
-use Rattle.pv_metadata.specs.SettingMetadata.{GivesMetadata}
-use Rattle.pv_metadata.specs.Nodes.{object_state_of, object_states_of, same_kind}
+use Rattle.pv_walk.specs.declared.object_state.ObjectState.{ObjectState}
+use Rattle.pv_walk.specs.declared.operation.Operation.TheVariants.{Make}
+use Rattle.pv_walk.specs.SettingMetadata.{GivesMetadata}
+use Rattle.pv_walk.specs.Nodes.{object_state_of, object_states_of, same_kind}
 use Rattle.std.specs.Option.{option_map_or}
 use Rattle.std.proofs.lemmas.Bool.{not-true, or_parts, and_parts}
-use Rattle.pv_metadata.specs.Operations.{stays, run}
-use Rattle.pv_metadata.proofs.OperationLaws.{run-twice}
+use Rattle.pv_walk.specs.Operations.{stays, run}
+use Rattle.pv_walk.proofs.OperationLaws.{run-twice}
 use Rattle.pv_lines.specs.declared.line.Line.{Line}
 use Rattle.pv_lines.specs.declared.line.LinePath.{LinePath}
 use Rattle.pv_lines.specs.declared.line.LinePath.TheVariants.{Literal, Glob}
@@ -37,7 +37,8 @@ use Rattle.pv_table.specs.declared.action.Adjustment.{Adjustment}
 use Rattle.pv_table.specs.Active.{in_create_order}
 use Rattle.pv_table.specs.Asked.{operations}
 use Rattle.pv_table.specs.ActionTable.{action_of}
-use Rattle.pv_table.specs.Created.{after_each, one_is_refused, by_turn, by_line, IsQuiet}
+use Rattle.pv_table.specs.Created.{by_turn, by_line, IsQuiet}
+use Rattle.pv_steps.specs.Doing.{after_each, one_is_refused}
 use Rattle.pv_table.specs.Effects.{carried_out, is_adjusted, prepare, turn_after, turns}
 use Rattle.pv_table.specs.Pointwise.{after_turn, parent_object_state, ObjectStates}
 use Rattle.pv_table.specs.Reaching.{names, path_in}
@@ -45,7 +46,7 @@ use Rattle.pv_table.specs.Repeatable.{IsRepeatable}
 use Rattle.pv_table.specs.Saying.{found}
 use Rattle.pv_table.specs.Turns.{Turn, View, view_of, copied, copy_of, copying_turn, making_turn, has_something, decide}
 use Rattle.pv_create.specs.Adjusting.{GivesBytes}
-use Rattle.pv_doing.specs.Courses.{IsStepOfSome}
+use Rattle.pv_steps.specs.Courses.{IsStepOfSome}
 use Rattle.pv_create.specs.OnWay.{IsStepOf, turn_at, puts_parents}
 use Rattle.pv_walk.specs.Copying.{GivesObjectState, Subtree, single}
 use Rattle.pv_laws.specs.Copying.{turn_of}

@@ -12,7 +12,7 @@ use Rattle.pv_lines.specs.declared.line.Line.{Line}
 use Rattle.pv_lines.specs.Lines.{IsLine}
 use Rattle.pv_table.specs.Active.{are_distinct, in_create_order}
 use Rattle.pv_table.proofs.ListedLaws.{all_in_order}
-use Rattle.pv_doing.specs.Courses.{Partway}
+use Rattle.pv_steps.specs.Courses.{Partway}
 use Rattle.pv_laws.specs.Copying.{PartwayOf}
 use Rattle.pv_laws.proofs.AgainStops.{again_mended, stopped_then}
 use Rattle.pv_laws.proofs.AllFrames.{stopped_frame}

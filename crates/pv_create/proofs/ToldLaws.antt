@@ -2,8 +2,8 @@
 use Rattle.std.specs.Prelude.{◌≡◌, ℕ, ◌+◌, ◌-◌, ◌≤◌, false, List, [], ◌++◌, length, Result}
 use Rattle.std.proofs.Common.{refl, sym, ap, ◌∙◌, arith, length-append}
 use Rattle.std.proofs.lemmas.List.{append_cancel_left}
-use Rattle.pv_doing.specs.Courses.{CarriesOut}
-use Rattle.pv_doing.specs.declared.carried.Carried.{Carried}
+use Rattle.pv_steps.specs.Courses.{CarriesOut}
+use Rattle.pv_steps.specs.declared.carried.Carried.{Carried}
 use Rattle.pv_lines.specs.declared.line.Line.{Line}
 use Rattle.pv_path.specs.Paths.{Path}
 use Rattle.pv_steps.specs.declared.tree.Tree.{Ghosts}

@@ -6,16 +6,16 @@ use Rattle.std.proofs.lemmas.Option.{same_Some}
 use Rattle.std.proofs.lemmas.Bool.{or_parts}
 use Rattle.pv_steps.specs.Attributes.{put_attrs}
 use Rattle.pv_steps.specs.Letters.{letters_after}
-use Rattle.pv_metadata.specs.declared.object_state.ObjectState.{ObjectState}
-use Rattle.pv_metadata.specs.declared.operation.Change.{Change}
-use Rattle.pv_metadata.specs.declared.operation.Change.TheVariants.{Write, Append, Owner, Mode, Entries, Attrs, Letters}
-use Rattle.pv_metadata.specs.declared.operation.Guard.{Guard}
-use Rattle.pv_metadata.specs.declared.operation.Operation.{Operation}
-use Rattle.pv_metadata.specs.declared.operation.Operation.TheVariants.{Apply}
-use Rattle.pv_metadata.specs.Nodes.{carries_letters, is_file, is_link}
-use Rattle.pv_metadata.specs.Operations.{admits, changed, run}
-use Rattle.pv_metadata.specs.Reasons.{is_adjusting}
-use Rattle.pv_metadata.proofs.OperationLaws.{run-append}
+use Rattle.pv_walk.specs.declared.object_state.ObjectState.{ObjectState}
+use Rattle.pv_walk.specs.declared.operation.Change.{Change}
+use Rattle.pv_walk.specs.declared.operation.Change.TheVariants.{Write, Append, Owner, Mode, Entries, Attrs, Letters}
+use Rattle.pv_walk.specs.declared.operation.Guard.{Guard}
+use Rattle.pv_walk.specs.declared.operation.Operation.{Operation}
+use Rattle.pv_walk.specs.declared.operation.Operation.TheVariants.{Apply}
+use Rattle.pv_walk.specs.Nodes.{carries_letters, is_file, is_link}
+use Rattle.pv_walk.specs.Operations.{admits, changed, run}
+use Rattle.pv_walk.specs.Reasons.{is_adjusting}
+use Rattle.pv_walk.proofs.OperationLaws.{run-append}
 use Rattle.pv_create.specs.Sets.{is_writing, writes, AreSets, AtMostOne, SetsBytes, SetsOwners, SetsMode}
 use Rattle.pv_create.proofs.Making.{with_payload, BytesMade, OwnersMade, bytes_made, owners_made, mode_made}
 

@@ -5,9 +5,9 @@ use Rattle.pv_steps.specs.declared.node.Node.{Node}
 use Rattle.pv_steps.specs.declared.object.Object.{Object}
 use Rattle.pv_steps.specs.Trees.{Files, node_at, places}
 use Rattle.pv_steps.specs.Objects.{object_state}
-use Rattle.pv_metadata.specs.declared.object_state.Metadata.{Metadata}
-use Rattle.pv_metadata.specs.SettingMetadata.{ChangedAt, SettingMetadata, with_metadata, with_first_changes}
-use Rattle.pv_metadata.proofs.EditLaws.{put_at-same}
+use Rattle.pv_walk.specs.declared.object_state.Metadata.{Metadata}
+use Rattle.pv_walk.specs.SettingMetadata.{ChangedAt, SettingMetadata, with_metadata, with_first_changes}
+use Rattle.pv_walk.proofs.EditLaws.{put_at-same}
 use Rattle.pv_create.specs.Adjusting.{Wears}
 
 worn_object : (new : Metadata) (o : Object) → Wears new o.node → with_metadata new o ≡ o

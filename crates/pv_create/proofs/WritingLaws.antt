@@ -15,9 +15,9 @@ use Rattle.pv_steps.specs.Steps.{on_at, after}
 use Rattle.pv_steps.specs.Trees.{Files, Places, places, kind_of, payload_at, IsKind}
 use Rattle.pv_steps.proofs.ActingLaws.{Asks}
 use Rattle.pv_steps.proofs.StepLaws.{at_after}
-use Rattle.pv_metadata.specs.SettingMetadata.{IsKeptBy, Lacks}
-use Rattle.pv_metadata.specs.Changing.{Changing}
-use Rattle.pv_metadata.proofs.EditLaws.{path_cases, object_states-on_at, on_at-else, on_at-here}
+use Rattle.pv_walk.specs.SettingMetadata.{IsKeptBy, Lacks}
+use Rattle.pv_walk.specs.Changing.{Changing}
+use Rattle.pv_walk.proofs.EditLaws.{path_cases, object_states-on_at, on_at-else, on_at-here}
 use Rattle.pv_create.specs.Adjusting.{GivesBytes, holding, written}
 
 -- ---- nothing to write

@@ -2,7 +2,7 @@
 use Rattle.std.specs.Prelude.{◌≡◌, ◌≢◌, ◌<◌, ◌≤◌, ◌^◌, Bool, true, false, [], length, Option, Some, None, IfSome}
 use Rattle.std.specs.Option.{option_map_or}
 use Rattle.pv_create.specs.Sets.{AreSets}
-use Rattle.pv_metadata.specs.declared.operation.Test.{Test}
+use Rattle.pv_walk.specs.declared.operation.Test.{Test}
 use Rattle.pv_lines.specs.declared.line.Line.{Line}
 use Rattle.pv_lines.specs.Lines.{IsConfigured, IsLine}
 use Rattle.pv_path.specs.Paths.{Path, parent_of, staging_of}

@@ -1,6 +1,6 @@
 -- What is decided at a path, by what the line asks for (tmpfiles.d(5)).
 use Rattle.std.specs.Prelude.{Bool, None, if◌then◌else◌}
-use Rattle.pv_metadata.specs.Nodes.{object_state_of, same_kind}
+use Rattle.pv_walk.specs.Nodes.{object_state_of, same_kind}
 use Rattle.pv_steps.specs.declared.node.Kind.{Kind}
 use Rattle.pv_table.specs.declared.action.Copying.{Copying}
 use Rattle.pv_table.specs.declared.action.Action.{Action}

@@ -1,7 +1,7 @@
 -- A line at its turn, whatever it asks for: what it may have left on its way, which steps it may do, and what it has done
 -- and said where it was cut short (tmpfiles.d(5)).
 use Rattle.std.specs.Prelude.{ℕ, List}
-use Rattle.pv_doing.specs.Courses.{Course, Cut, Partway, IsStepOfSome}
+use Rattle.pv_steps.specs.Courses.{Course, Cut, Partway, IsStepOfSome}
 use Rattle.pv_lines.specs.declared.line.Line.{Line}
 use Rattle.pv_create.specs.OnWay.{turn_course}
 use Rattle.pv_steps.specs.declared.step.Step.{Step}

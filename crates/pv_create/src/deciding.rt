@@ -4,8 +4,8 @@ ghost use Rattle.std.specs.List.{list_all};
 ghost use Rattle.std.specs.Option.{option_map_or};
 ghost use Rattle.std.specs.Str.{bytes_eq};
 ghost use Rattle.pv_path.specs.Names.{is_staging};
-ghost use Rattle.pv_metadata.specs.Nodes.{object_state_of, is_link, same_substance};
-ghost use Rattle.pv_metadata.specs.Operations.{stays};
+ghost use Rattle.pv_walk.specs.Nodes.{object_state_of, is_link, same_substance};
+ghost use Rattle.pv_walk.specs.Operations.{stays};
 ghost use Rattle.pv_steps.specs.declared.node.Kind.TheVariants.{Directory};
 ghost use Rattle.pv_steps.specs.declared.object.Object.{Object as ObjectValue};
 ghost use Rattle.pv_steps.specs.Objects.{is_directory};
@@ -15,11 +15,10 @@ ghost use Rattle.pv_table.specs.Turns.{view_of, is_childless, decide};
 ghost use Rattle.pv_walk.specs.Staging.{new_object};
 ghost use Rattle.pv_create.specs.Deciding.{meant, kept_turn, kept_copy};
 
-use pv_metadata::admits;
 use pv_path::{Name, TreePath, is_staging};
 use pv_steps::{Kind, Node, Tree, kind_at};
 use pv_table::{Action, Adjustment, Copying, Making};
-use pv_walk::NewFile;
+use pv_walk::{NewFile, admits};
 use std::alloc::{AllocError, Global};
 
 /// What is done at a path.

@@ -2,20 +2,20 @@
 ghost use Rattle.std.specs.Prelude.{◌≡◌, IsTrue, true, Some, IfOk, unwrap_or, if◌then◌else◌};
 ghost use Rattle.pv_acl.specs.Applying.{acl_after};
 ghost use Rattle.pv_acl.specs.Parts.{base_of, special_of, with_mode};
-ghost use Rattle.pv_metadata.specs.declared.operation.Change.TheVariants.{Write};
-ghost use Rattle.pv_metadata.specs.Changing.{SameBase};
-ghost use Rattle.pv_metadata.specs.Masks.{masked_special, with_masked};
-ghost use Rattle.pv_metadata.specs.Nodes.{object_state_of};
-ghost use Rattle.pv_metadata.specs.Operations.{changed, done, run};
+ghost use Rattle.pv_walk.specs.declared.operation.Change.TheVariants.{Write};
+ghost use Rattle.pv_walk.specs.Changing.{SameBase};
+ghost use Rattle.pv_walk.specs.Masks.{masked_special, with_masked};
+ghost use Rattle.pv_walk.specs.Nodes.{object_state_of};
+ghost use Rattle.pv_walk.specs.Operations.{changed, done, run};
 ghost use Rattle.pv_steps.specs.declared.object.Object.{Object as ObjectValue};
 ghost use Rattle.pv_steps.specs.Objects.{is_directory};
 ghost use Rattle.pv_steps.specs.Trees.{places, kind_of, node_at, IsPresent, IsTree};
 
 use crate::wanted::node_of;
 use pv_acl::{AclLine, How, Part, apply_entries};
-use pv_metadata::{Change, Operation, admits, masked_special, set_masked_base};
 use pv_path::{Bytes, TreePath};
 use pv_steps::{Kind, Node, Tree, special_bits};
+use pv_walk::{Change, Operation, admits, masked_special, set_masked_base};
 use std::alloc::{AllocError, Global};
 
 /// Whether all that is set leaves the object at a path as it is. Bytes added, extended attributes and letters are not

@@ -1,8 +1,8 @@
 //! Laws of what a run of lines leaves on its way. Each function does nothing; its contract is the law.
 ghost use Rattle.std.specs.Prelude.{◌≡◌, ◌⊎◌, ℕ, List, true, false};
 ghost use Rattle.std.specs.List.{AllByRecursion};
-ghost use Rattle.pv_metadata.specs.Nodes.{object_states_of};
-ghost use Rattle.pv_doing.specs.Courses.{Partway, IsStepOfSome};
+ghost use Rattle.pv_walk.specs.Nodes.{object_states_of};
+ghost use Rattle.pv_steps.specs.Courses.{Partway, IsStepOfSome};
 ghost use Rattle.pv_lines.specs.declared.line.Line.{Line as LineValue};
 ghost use Rattle.pv_lines.specs.Lines.{IsLine};
 ghost use Rattle.pv_path.specs.Paths.{Path, has_staging};

@@ -1,6 +1,6 @@
 //! One line carried out, at each of its paths.
 ghost use Rattle.std.specs.Prelude.{◌≡◌, ◌&&◌, ◌∷◌, [], not, Bool, IfOk};
-ghost use Rattle.pv_doing.specs.Courses.{carried_of, CarriesOut};
+ghost use Rattle.pv_steps.specs.Courses.{carried_of, CarriesOut};
 ghost use Rattle.pv_lines.specs.Lines.{IsLine};
 ghost use Rattle.pv_table.specs.ActionTable.{action_of};
 ghost use Rattle.pv_table.specs.Effects.{turns};
@@ -9,12 +9,10 @@ ghost use Rattle.pv_create.specs.Ways.{line_course, lines_course};
 
 use crate::line_at::LineAt;
 use crate::turning::at_turn;
-use pv_doing::Carried;
-use pv_find::named_paths;
 use pv_lines::Line;
 use pv_path::TreePath;
-use pv_steps::{Tree, TreeFault};
-use pv_table::{Action, action_of, path_of};
+use pv_steps::{Carried, Tree, TreeFault};
+use pv_table::{Action, action_of, named_paths, path_of};
 use pv_text::Messages;
 use std::alloc::{AllocError, Global};
 

@@ -5,8 +5,8 @@ ghost use Rattle.pv_steps.specs.declared.node.Kind.TheVariants.{File};
 ghost use Rattle.pv_steps.specs.Acting.{asked, Acted};
 ghost use Rattle.pv_steps.specs.Steps.{on_at};
 ghost use Rattle.pv_steps.specs.Trees.{places, IsKind, IsPresent};
-ghost use Rattle.pv_metadata.specs.SettingMetadata.{CanSetMetadata, ChangedAt, SettingMetadata, GivesMetadata, IsKeptBy, with_metadata, with_attrs_of, with_letters_of};
-ghost use Rattle.pv_metadata.specs.Changing.{Changing, with_access_of};
+ghost use Rattle.pv_walk.specs.SettingMetadata.{CanSetMetadata, ChangedAt, SettingMetadata, GivesMetadata, IsKeptBy, with_metadata, with_attrs_of, with_letters_of};
+ghost use Rattle.pv_walk.specs.Changing.{Changing, with_access_of};
 ghost use Rattle.pv_table.specs.Created.{change_work};
 ghost use Rattle.pv_table.specs.Effects.{become};
 ghost use Rattle.pv_create.specs.Sets.{AreSets};
@@ -14,9 +14,9 @@ ghost use Rattle.pv_create.specs.Adjusting.{Adjusting, GivesSet, GivesWanted, Ha
 
 use crate::kept::are_kept;
 use crate::wanted::{node_of, wanted_at};
-use pv_metadata::{Metadata, Operation, set_metadata};
 use pv_path::{Bytes, TreePath};
 use pv_steps::{Node, Step, Tree, TreeFault, try_step};
+use pv_walk::{Metadata, Operation, set_metadata};
 use std::alloc::Global;
 
 /// Adjusts the object at a path: its bytes, owner, mode, ACL, extended attributes and letters, in this order, each

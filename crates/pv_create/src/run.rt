@@ -1,6 +1,6 @@
 //! Lines carried out in their order.
 ghost use Rattle.std.specs.Prelude.{◌≡◌, ◌++◌, true, Some, is_some, slice_get, drop, length, IfOk, OnOk};
-ghost use Rattle.pv_doing.specs.Courses.{Partway, IsStepOfSome, carried_of, each_of, CarriesOut, Cut, HasGone};
+ghost use Rattle.pv_steps.specs.Courses.{Partway, IsStepOfSome, carried_of, each_of, CarriesOut, Cut, HasGone};
 ghost use Rattle.pv_laws.specs.Swept.{LeavesNoStagingName};
 ghost use Rattle.pv_steps.specs.Acting.{refused, Acted};
 ghost use Rattle.pv_text.specs.GivenMessages.{MessagesPart};
@@ -11,9 +11,8 @@ ghost use Rattle.pv_create.specs.OnTheWay.{IsFramed, IsStoppedBetween, GiveWhatL
 ghost use Rattle.pv_create.specs.Ways.{lines_course};
 
 use crate::line::create_line;
-use pv_doing::Carried;
 use pv_lines::Line;
-use pv_steps::{Tree, TreeFault};
+use pv_steps::{Carried, Tree, TreeFault};
 use pv_table::{Table, create_order};
 use pv_text::Messages;
 use std::alloc::Global;

@@ -1,6 +1,6 @@
 //! A line carried out at a path.
 ghost use Rattle.std.specs.Prelude.{◌≡◌, true, None, OnOk};
-ghost use Rattle.pv_doing.specs.Courses.{CarriesOut};
+ghost use Rattle.pv_steps.specs.Courses.{CarriesOut};
 ghost use Rattle.pv_steps.specs.Acting.{Acted};
 ghost use Rattle.pv_steps.specs.Trees.{places};
 ghost use Rattle.pv_table.specs.Saying.{found};
@@ -12,8 +12,7 @@ ghost use Rattle.pv_create.specs.Turning.{Readying, IsReadyStep, ready_work};
 use crate::line_at::{LineAt, makes};
 use crate::refusing::{has_something, refusal, say_refusal};
 use crate::settling::settle;
-use pv_doing::Carried;
-use pv_steps::{Tree, TreeFault};
+use pv_steps::{Carried, Tree, TreeFault};
 use pv_text::Messages;
 use pv_walk::prepare;
 use std::alloc::Global;

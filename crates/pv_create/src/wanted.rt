@@ -2,14 +2,14 @@
 ghost use Rattle.std.specs.Prelude.{◌≡◌, Some, IfOk};
 ghost use Rattle.pv_steps.specs.declared.object.Object.{Object as ObjectValue};
 ghost use Rattle.pv_steps.specs.Trees.{places, node_at, IsPresent, IsTree};
-ghost use Rattle.pv_metadata.specs.Operations.{run};
-ghost use Rattle.pv_metadata.specs.Reasons.{is_adjusting};
+ghost use Rattle.pv_walk.specs.Operations.{run};
+ghost use Rattle.pv_walk.specs.Reasons.{is_adjusting};
 ghost use Rattle.pv_create.specs.Sets.{is_writing, writes, AreSets};
 ghost use Rattle.pv_create.specs.Adjusting.{IsWanted};
 
-use pv_metadata::{Change, Metadata, ObjectState, Operation, run_operations};
 use pv_path::{Bytes, TreePath};
 use pv_steps::{Kind, Node, Tree};
+use pv_walk::{Change, Metadata, ObjectState, Operation, run_operations};
 use std::alloc::{AllocError, Global};
 
 /// What an object is to have.

@@ -2,7 +2,7 @@
 use Rattle.std.specs.Prelude.{◌≡◌, true, false, ◌&&◌, [], ◌∷◌, Some, None, is_some}
 use Rattle.std.proofs.Common.{sym, ap, subst, ◌∙◌, inl, inr}
 use Rattle.std.specs.FinMap as fin
-use Rattle.pv_metadata.proofs.EditLaws.{path_cases}
+use Rattle.pv_walk.proofs.EditLaws.{path_cases}
 use Rattle.pv_lines.specs.declared.line.Line.{Line}
 use Rattle.pv_lines.specs.declared.line.LinePath.TheVariants.{Literal}
 use Rattle.pv_path.specs.Paths.{Path, is_prefix, same_path, same_path-decides}

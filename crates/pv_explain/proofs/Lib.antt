@@ -1,5 +1,10 @@
-pub mod AlongLaws
+pub mod AboveLaws
+pub mod CopyLaws
 pub mod OrderLaws
+pub mod StandingLaws
+pub mod TabulatedLaws
+pub mod AlongLaws
+pub mod LineByLineLaws
 pub mod PointLaws
 pub mod RegionLaws
-pub mod StandingLaws
+pub mod TreeStandingLaws

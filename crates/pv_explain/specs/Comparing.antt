@@ -2,9 +2,9 @@
 use Rattle.std.specs.Prelude.{Bool, ◌&&◌, ◌==◌}
 use Rattle.std.specs.Cmp.Lexicographic.{pointwise}
 use Rattle.pv_acl.specs.contracts.part.AclPartialEq as acl_eq
-use Rattle.pv_metadata.specs.declared.object_state.Body.{Body}
-use Rattle.pv_metadata.specs.declared.object_state.Metadata.{Metadata}
-use Rattle.pv_metadata.specs.Nodes.{same_kind}
+use Rattle.pv_walk.specs.declared.object_state.Body.{Body}
+use Rattle.pv_walk.specs.declared.object_state.Metadata.{Metadata}
+use Rattle.pv_walk.specs.Nodes.{same_kind}
 use Rattle.pv_path.specs.Names.{same_bytes}
 use Rattle.pv_table.specs.Effects.{same_attr}
 

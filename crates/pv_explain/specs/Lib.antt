@@ -1,3 +1,4 @@
+pub mod LineTurns
 pub mod Acts
 pub mod Comparing
 pub mod Following

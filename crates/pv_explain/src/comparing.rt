@@ -7,9 +7,9 @@ ghost use Rattle.pv_explain.specs.Acts.{act_between, object_state_in};
 ghost use Rattle.pv_explain.specs.Comparing.{same_body, same_metadata};
 
 use crate::explained::Act;
-use pv_metadata::{Body, Metadata, ObjectState};
 use pv_path::Bytes;
 use pv_steps::{AttrList, LetterSet, Node, Stamps};
+use pv_walk::{Body, Metadata, ObjectState};
 
 /// What is done between what stands at a path before and after; nothing where it is the same.
 pub(crate) fn act_between(before: Option<&ObjectState>, after: Option<&ObjectState>) -> Option<Act>

@@ -2,7 +2,7 @@
 ghost use Rattle.std.specs.Prelude.{◌≡◌, ◌++◌, [], ℕ, false, true, Some, is_some, option_map, slice_get, IfOk, OnOk};
 ghost use Rattle.std.specs.List.{cons_option};
 ghost use Rattle.std.specs.Option.{option_copied};
-ghost use Rattle.pv_metadata.specs.Nodes.{object_states_of};
+ghost use Rattle.pv_walk.specs.Nodes.{object_states_of};
 ghost use Rattle.pv_path.specs.Paths.{has_staging};
 ghost use Rattle.pv_steps.specs.Trees.{places};
 ghost use Rattle.pv_table.specs.Created.{created, IsQuiet};
@@ -18,13 +18,14 @@ use crate::comparing::{act_between, node_of};
 use crate::explained::{ActList, Explained, LineAct};
 use crate::following::{Scope, after};
 use crate::region::{closed_region, paths_in};
-use crate::standing::standing_at;
+use crate::standing::Standing;
+use crate::state::places_along;
+use crate::tree_standing::standing_at;
 use pv_lines::Line;
-use pv_metadata::ObjectState;
 use pv_path::TreePath;
-use pv_pointwise::{Standing, places_along};
 use pv_steps::Tree;
 use pv_table::{Table, create_order};
+use pv_walk::ObjectState;
 use std::alloc::{AllocError, Global};
 
 /// Which lines of a table act on a path in the create phase, in their order, and what stands there at the end

@@ -12,9 +12,10 @@ ghost use Rattle.pv_explain.specs.declared.region.Region.{Region as RegionValue}
 ghost use Rattle.pv_explain.specs.Following.{holds, Follows, HoldsCopy, IsAlong, IsWithin, Suits};
 
 use crate::region::Region;
+use crate::standing::Standing;
+use crate::state::{after_line, after_line_at, places_along};
 use pv_lines::{Line, LinePath};
 use pv_path::{TreePath, is_prefix};
-use pv_pointwise::{Standing, after_line, after_line_at, places_along};
 use pv_table::{Action, action_of};
 use std::alloc::{AllocError, Global};
 

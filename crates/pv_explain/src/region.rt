@@ -9,12 +9,12 @@ ghost use Rattle.pv_walk.specs.Preparing.{parents_of};
 ghost use Rattle.pv_walk.specs.Removal.{is_one_of};
 ghost use Rattle.pv_explain.specs.Following.{copies_of, copy_of, covers, holds, is_open, leads, IsClosed};
 
-use pv_find::at_and_below;
+use crate::state::places_along;
 use pv_lines::Line;
 use pv_path::{TreePath, is_prefix};
-use pv_pointwise::places_along;
 use pv_steps::Tree;
 use pv_table::{Action, Table, action_of, path_of};
+use pv_walk::at_and_below;
 use std::alloc::{AllocError, Global};
 
 /// What a line copies, and where to.

@@ -14,9 +14,9 @@ use Rattle.pv_steps.specs.Trees.{IsAbsentIn, IsKindIn, IsPresentIn, IsTreeIn, Pl
 use Rattle.pv_steps.specs.Steps as steps
 use Rattle.pv_steps.specs.Steps.{Can, StepFits, after_at}
 use Rattle.pv_steps.proofs.TreeLaws.{directory_above, no_rest_no_prefix, not_absent, present_above, present_of_kind}
-use Rattle.pv_host.specs.declared.item.HostKind.TheVariants as named
-use Rattle.pv_host.specs.Content as host
-use Rattle.pv_host.specs.Content.{Change, Held, HostObject, May, changed}
+use Rattle.pv_folder.specs.declared.item.HostKind.TheVariants as named
+use Rattle.pv_folder.specs.Content as host
+use Rattle.pv_folder.specs.Content.{Change, Held, HostObject, May, changed}
 use Rattle.pv_folder.specs.Folders.{real_as, real_of}
 use Rattle.pv_folder.specs.Keeping.{change_for, move, removal}
 use Rattle.pv_folder.proofs.BelowLaws.{below_some, is_prefix-below, no_rest_below, not_below, not_same_below, parent_of-below, rest_under-below, same_path-below}

@@ -6,8 +6,8 @@ use Rattle.pv_steps.specs.declared.node.Kind.{Kind}
 use Rattle.pv_steps.specs.declared.node.Kind.TheVariants.{File}
 use Rattle.pv_steps.specs.declared.object.Object.{Object}
 use Rattle.pv_steps.specs.Trees.{kind_of}
-use Rattle.pv_host.specs.Content.{HostObject}
-use Rattle.pv_host.specs.Content as host
+use Rattle.pv_folder.specs.Content.{HostObject}
+use Rattle.pv_folder.specs.Content as host
 use Rattle.pv_folder.specs.Folders.{real_as, real_of}
 use Rattle.pv_folder.specs.Keeping.{move, removal}
 

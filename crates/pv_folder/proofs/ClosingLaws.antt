@@ -7,10 +7,10 @@ use Rattle.pv_path.specs.Paths.{Path, is_prefix, rest_under, same_path}
 use Rattle.pv_path.proofs.PathLaws.{has_names-push, not_prefix_not_same, parent_of-push, prefix_parts, rest_under-Some, same_path-no, same_path-refl}
 use Rattle.pv_steps.specs.Trees.{Files}
 use Rattle.pv_steps.proofs.TreeLaws.{no_rest_no_prefix}
-use Rattle.pv_host.specs.declared.host.HostFault.{HostFault}
-use Rattle.pv_host.specs.declared.item.HostKind.TheVariants as named
-use Rattle.pv_host.specs.Content as host
-use Rattle.pv_host.specs.Content.{Content, Held, HostObject, HasPlace, IsChanged, IsDirectory, MayAsk, May, changed, held, put_at}
+use Rattle.pv_folder.specs.declared.host.HostFault.{HostFault}
+use Rattle.pv_folder.specs.declared.item.HostKind.TheVariants as named
+use Rattle.pv_folder.specs.Content as host
+use Rattle.pv_folder.specs.Content.{Content, Held, HostObject, HasPlace, IsChanged, IsDirectory, MayAsk, May, changed, held, put_at}
 use Rattle.pv_folder.specs.Folders.{Agrees, IsFree, manifest_path, new_manifest_path, tree_path}
 use Rattle.pv_folder.specs.Keeping.{HasManifest, IsReady, IsSameButNew, with_manifest}
 use Rattle.pv_folder.proofs.BelowLaws.{below_some, beside, longer, same_path-below}

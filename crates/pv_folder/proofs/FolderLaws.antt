@@ -11,9 +11,9 @@ use Rattle.pv_path.proofs.PathLaws.{name_cmp-refl, parent_of-push, rest_under-So
 use Rattle.pv_path.proofs.Tests.{both_T, each_T, less_of-T}
 use Rattle.pv_steps.specs.Trees.{child_name}
 use Rattle.pv_steps.proofs.NameLaws.{child_name-Some, child_name-push}
-use Rattle.pv_host.specs.declared.item.HostKind.{HostKind}
-use Rattle.pv_host.specs.declared.item.HostKind.TheVariants as kind
-use Rattle.pv_host.specs.Content.{Content, Held, HostObject, IsContent, IsDirectory, IsPresent, held, item_below, items_in, kind_at, kind_of}
+use Rattle.pv_folder.specs.declared.item.HostKind.{HostKind}
+use Rattle.pv_folder.specs.declared.item.HostKind.TheVariants as kind
+use Rattle.pv_folder.specs.Content.{Content, Held, HostObject, IsContent, IsDirectory, IsPresent, held, item_below, items_in, kind_at, kind_of}
 use Rattle.pv_folder.specs.Folders.{object_below, objects_in, tree_path}
 use Rattle.pv_folder.specs.Reading.{kind_named}
 

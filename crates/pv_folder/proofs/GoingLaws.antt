@@ -13,13 +13,13 @@ use Rattle.pv_steps.specs.Objects.{fresh}
 use Rattle.pv_steps.specs.Trees.{Files, IsKind}
 use Rattle.pv_tree.specs.Growth.{Grown}
 use Rattle.pv_tree.specs.Held.{root_alone}
-use Rattle.pv_generate.proofs.GrowLaws.{all_grown}
-use Rattle.pv_host.specs.declared.item.HostItem.{HostItem}
-use Rattle.pv_host.specs.declared.item.HostKind.{HostKind}
-use Rattle.pv_host.specs.declared.item.HostKind.TheVariants as kind
-use Rattle.pv_host.specs.Content.{Content, Held, HostObject, IsAbsent, IsContent, IsDirectory, IsFile, held, items_in, kind_at, listing, listing_of}
-use Rattle.pv_host.specs.Content as host
-use Rattle.pv_host.specs.Lists.{is_ordered}
+use Rattle.pv_tree.proofs.GrowLaws.{all_grown}
+use Rattle.pv_folder.specs.declared.item.HostItem.{HostItem}
+use Rattle.pv_folder.specs.declared.item.HostKind.{HostKind}
+use Rattle.pv_folder.specs.declared.item.HostKind.TheVariants as kind
+use Rattle.pv_folder.specs.Content.{Content, Held, HostObject, IsAbsent, IsContent, IsDirectory, IsFile, held, items_in, kind_at, listing, listing_of}
+use Rattle.pv_folder.specs.Content as host
+use Rattle.pv_folder.specs.Lists.{is_ordered}
 use Rattle.pv_folder.specs.declared.found.Found.{Found}
 use Rattle.pv_folder.specs.declared.found.Seen.{Seen}
 use Rattle.pv_folder.specs.declared.open_fault.OpenFault.{OpenFault}

@@ -16,12 +16,12 @@ use Rattle.pv_steps.specs.declared.node.Node.{Node}
 use Rattle.pv_steps.specs.declared.object.Object.{Object}
 use Rattle.pv_steps.specs.Objects.{fresh}
 use Rattle.pv_steps.specs.Trees.{Files, kind_of, places}
-use Rattle.pv_metadata.specs.Nodes.{same_kind}
+use Rattle.pv_walk.specs.Nodes.{same_kind}
 use Rattle.pv_text.specs.Facts.{Values}
-use Rattle.pv_host.specs.declared.item.HostKind.TheVariants as kind
+use Rattle.pv_folder.specs.declared.item.HostKind.TheVariants as kind
 use Rattle.pv_image.specs.Emptied.{with_empty_files}
-use Rattle.pv_host.specs.Content.{Content, Held, HostObject, IsContent, held, put_at}
-use Rattle.pv_host.specs.Content as host
+use Rattle.pv_folder.specs.Content.{Content, Held, HostObject, IsContent, held, put_at}
+use Rattle.pv_folder.specs.Content as host
 use Rattle.pv_folder.specs.declared.open_fault.OpenFault.{OpenFault}
 use Rattle.pv_folder.specs.declared.open_fault.OpenFault.TheVariants.{TooLarge}
 use Rattle.pv_folder.specs.Folders.{Agrees, manifest_path, new_manifest_path, object_of, objects_in, real_as, real_in, real_of, tree_path}

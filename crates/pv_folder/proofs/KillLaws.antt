@@ -11,7 +11,7 @@ use Rattle.pv_steps.specs.Trees.{Files, places}
 use Rattle.pv_steps.specs.Runs.{after_all}
 use Rattle.pv_steps.proofs.StepLaws.{among_keys, places-tabulate}
 use Rattle.pv_text.specs.Facts.{Values}
-use Rattle.pv_host.specs.Content.{Content, held}
+use Rattle.pv_folder.specs.Content.{Content, held}
 use Rattle.pv_folder.specs.Folders.{Agrees, manifest_path, object_of, real_in, real_of}
 use Rattle.pv_folder.specs.Merge.{merged}
 use Rattle.pv_folder.specs.Moments.{IsBetween, closed, in_closing, in_steps, real_part}

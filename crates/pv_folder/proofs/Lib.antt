@@ -1,3 +1,10 @@
+pub mod Listing
+pub mod Pieces
+pub mod Seeing
+pub mod Naming
+pub mod Changing
+pub mod Held
+pub mod Copying
 pub mod MergeLaws
 pub mod MergingLaws
 pub mod FactLaws

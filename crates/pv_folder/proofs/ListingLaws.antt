@@ -3,7 +3,7 @@ use Rattle.std.proofs.Common.{◌≡◌, ◌∙◌, ◌+◌, ◌<◌, ℕ, Bool,
 use Rattle.std.proofs.lemmas.List.{at_drop_more, map-append, reverse-append}
 use Rattle.pv_path.specs.Names.{same_bytes}
 use Rattle.pv_path.proofs.PathLaws.{same_bytes-decides}
-use Rattle.pv_host.specs.declared.item.HostItem.{HostItem}
+use Rattle.pv_folder.specs.declared.item.HostItem.{HostItem}
 use Rattle.pv_folder.specs.Reading.{kind_named}
 
 same_turned : (a b : List ℕ) → same_bytes a b ≡ same_bytes b a

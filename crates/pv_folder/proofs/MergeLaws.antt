@@ -11,7 +11,7 @@ use Rattle.pv_steps.specs.Objects.{AclFits, IsObject, PayloadFits}
 use Rattle.pv_steps.specs.Trees.{Files, IsKind, IsTree, kind_of, places}
 use Rattle.pv_steps.proofs.ObjectLaws.{IsObject-fresh}
 use Rattle.pv_steps.proofs.StepLaws.{among_keys, among_left, among_right, is_among, places-tabulate}
-use Rattle.pv_metadata.specs.Nodes.{same_kind}
+use Rattle.pv_walk.specs.Nodes.{same_kind}
 use Rattle.pv_folder.specs.Merge.{with_metadata, is_real_kind, merged, merged_at, merged_of, plain, plain_mode}
 
 -- ---- what stands at each path

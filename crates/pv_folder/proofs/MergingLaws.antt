@@ -19,7 +19,7 @@ use Rattle.pv_steps.proofs.StepLaws.{same_files}
 use Rattle.pv_tree.specs.Changes.{MayHave, with_node}
 use Rattle.pv_tree.specs.Growth.{Grown}
 use Rattle.pv_tree.specs.Held.{root_alone}
-use Rattle.pv_metadata.specs.Nodes.{same_kind}
+use Rattle.pv_walk.specs.Nodes.{same_kind}
 use Rattle.pv_image.proofs.MappedLaws.{places-mapped}
 use Rattle.pv_folder.specs.declared.found.Seen.{Seen}
 use Rattle.pv_folder.specs.declared.found.Seen.TheVariants as seen

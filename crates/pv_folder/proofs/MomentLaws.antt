@@ -10,8 +10,8 @@ use Rattle.pv_steps.specs.Steps.{after}
 use Rattle.pv_steps.specs.Runs.{Along, Legal, after_all}
 use Rattle.pv_steps.proofs.StepLaws.{at_after}
 use Rattle.pv_steps.proofs.TreeLaws.{tree_after}
-use Rattle.pv_host.specs.Content.{Change, Held, IsDirectory, changed, put_at}
-use Rattle.pv_host.specs.Content as host
+use Rattle.pv_folder.specs.Content.{Change, Held, IsDirectory, changed, put_at}
+use Rattle.pv_folder.specs.Content as host
 use Rattle.pv_folder.specs.Folders.{Agrees, IsSameElse, manifest_path, new_manifest_path, real_of, tree_path}
 use Rattle.pv_folder.specs.Keeping.{IsReady, change_for, with_manifest}
 use Rattle.pv_folder.specs.Moments.{IsBetween, all_changed, changes_of, closed, closing, in_closing, in_steps, run_changes}

@@ -14,7 +14,7 @@ use Rattle.pv_steps.specs.declared.node.Kind.TheVariants as node
 use Rattle.pv_steps.specs.declared.object.Object.{Object}
 use Rattle.pv_steps.specs.Objects.{PayloadFits, fresh}
 use Rattle.pv_steps.specs.Trees.{Files, IsTree, kind_of, places}
-use Rattle.pv_metadata.specs.Nodes.{same_kind}
+use Rattle.pv_walk.specs.Nodes.{same_kind}
 use Rattle.pv_text.specs.Facts.{Values}
 use Rattle.pv_image.specs.declared.image_fault.ImageFault.{ImageFault}
 use Rattle.pv_image.specs.declared.image_fault.ImageFault.TheVariants as image_fault
@@ -22,8 +22,8 @@ use Rattle.pv_image.specs.Emptied.{emptied, emptied_payload, with_empty_files}
 use Rattle.pv_image.specs.Images.{HasImageFault, IsImage}
 use Rattle.pv_image.proofs.EmptyLaws.{kind_of-emptied, places-emptied}
 use Rattle.pv_image.proofs.ImageLaws.{image_sound, one_fault}
-use Rattle.pv_host.specs.Content.{Content, HostObject, bytes_of, held}
-use Rattle.pv_host.specs.Content as host
+use Rattle.pv_folder.specs.Content.{Content, HostObject, bytes_of, held}
+use Rattle.pv_folder.specs.Content as host
 use Rattle.pv_folder.specs.declared.open_fault.OpenFault.{OpenFault}
 use Rattle.pv_folder.specs.declared.open_fault.OpenFault.TheVariants.{BadManifest, HostFailed, Memory}
 use Rattle.pv_folder.specs.Folders.{Agrees, IsPrepared, manifest_path, object_of, objects_in, real_as, real_in, real_of, tree_path}

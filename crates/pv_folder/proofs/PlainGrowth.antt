@@ -9,9 +9,9 @@ use Rattle.pv_steps.specs.declared.object.Object.{Object}
 use Rattle.pv_steps.specs.Objects.{IsObject}
 use Rattle.pv_steps.specs.Trees.{Files, IsKind, IsTree}
 use Rattle.pv_tree.specs.Held.{root_alone}
-use Rattle.pv_generate.proofs.PlanLaws.{Planned}
-use Rattle.pv_generate.proofs.GrowLaws.{IsGrowing, grown, has_parent, is_after, is_object}
-use Rattle.pv_host.proofs.Copying.{begun, first_kind, first_whole, next, next_named}
+use Rattle.pv_tree.proofs.PlanLaws.{Planned}
+use Rattle.pv_tree.proofs.GrowLaws.{IsGrowing, grown, has_parent, is_after, is_object}
+use Rattle.pv_folder.proofs.Copying.{begun, first_kind, first_whole, next, next_named}
 use Rattle.pv_image.proofs.MappedLaws.{entries-mapped, first_by, rest_by, shown_by, tree_mapped}
 use Rattle.pv_folder.specs.Merge.{plain, plained}
 use Rattle.pv_folder.proofs.MergeLaws.{IsObject-plain}

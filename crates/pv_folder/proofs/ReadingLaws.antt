@@ -17,13 +17,13 @@ use Rattle.pv_steps.specs.declared.object.Object.{Object}
 use Rattle.pv_steps.specs.Objects.{fresh}
 use Rattle.pv_steps.specs.Trees.{Files, places}
 use Rattle.pv_tree.specs.Held.{root_alone}
-use Rattle.pv_generate.proofs.GrowLaws.{IsGrowing, grown}
-use Rattle.pv_host.specs.declared.item.HostItem.{HostItem}
-use Rattle.pv_host.specs.declared.item.HostKind.{HostKind}
-use Rattle.pv_host.specs.declared.item.HostKind.TheVariants as kind
-use Rattle.pv_host.specs.Content.{Content, Held, HostObject, IsContent, IsDirectory, IsPresent, held, items_in, kind_at, listing, listing_of}
-use Rattle.pv_host.specs.Content as host
-use Rattle.pv_host.specs.Lists.{comes_before, is_ordered}
+use Rattle.pv_tree.proofs.GrowLaws.{IsGrowing, grown}
+use Rattle.pv_folder.specs.declared.item.HostItem.{HostItem}
+use Rattle.pv_folder.specs.declared.item.HostKind.{HostKind}
+use Rattle.pv_folder.specs.declared.item.HostKind.TheVariants as kind
+use Rattle.pv_folder.specs.Content.{Content, Held, HostObject, IsContent, IsDirectory, IsPresent, held, items_in, kind_at, listing, listing_of}
+use Rattle.pv_folder.specs.Content as host
+use Rattle.pv_folder.specs.Lists.{comes_before, is_ordered}
 use Rattle.pv_folder.specs.declared.found.Found.{Found}
 use Rattle.pv_folder.specs.declared.found.Seen.{Seen}
 use Rattle.pv_folder.specs.declared.found.Seen.TheVariants as seen

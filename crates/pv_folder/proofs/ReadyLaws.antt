@@ -12,9 +12,9 @@ use Rattle.pv_steps.specs.Trees.{Files, IsTree, Places, kind_of, places}
 use Rattle.pv_steps.specs.Steps.{Can, StepFits, after}
 use Rattle.pv_steps.proofs.StepLaws.{at_after}
 use Rattle.pv_steps.proofs.TreeLaws.{tree_after}
-use Rattle.pv_host.specs.declared.item.HostKind.TheVariants as named
-use Rattle.pv_host.specs.Content as host
-use Rattle.pv_host.specs.Content.{Change, Content, Held, HostObject, IsAbsent, IsContent, IsDirectory, IsFile, IsPresent, changed, held}
+use Rattle.pv_folder.specs.declared.item.HostKind.TheVariants as named
+use Rattle.pv_folder.specs.Content as host
+use Rattle.pv_folder.specs.Content.{Change, Content, Held, HostObject, IsAbsent, IsContent, IsDirectory, IsFile, IsPresent, changed, held}
 use Rattle.pv_folder.specs.Folders.{Agrees, IsFree, IsPrepared, IsSameElse, manifest_path, new_manifest_path, real_as, real_of, tree_path}
 use Rattle.pv_folder.specs.Keeping.{IsAtMostAhead, IsChangedBy, IsReady, IsSameOutside, Keeps, MayAskFor, Moves, ahead, change_for, level}
 use Rattle.pv_folder.proofs.AgreeLaws.{MayDo, agrees_after, done, may_ask, same_elsewhere}

@@ -5,9 +5,9 @@ use Rattle.std.proofs.lemmas.Bool.Decides.{nat_tests}
 use Rattle.std.proofs.Math.Bool.{or-true}
 use Rattle.pv_path.specs.Paths.{Path}
 use Rattle.pv_steps.specs.Trees.{Files}
-use Rattle.pv_host.specs.declared.item.HostKind.TheVariants as kind
-use Rattle.pv_host.specs.Content.{Content, HostObject, bytes_of, held, kind_at, kind_of, within}
-use Rattle.pv_host.specs.Content as host
+use Rattle.pv_folder.specs.declared.item.HostKind.TheVariants as kind
+use Rattle.pv_folder.specs.Content.{Content, HostObject, bytes_of, held, kind_at, kind_of, within}
+use Rattle.pv_folder.specs.Content as host
 use Rattle.pv_image.specs.declared.Image.{Image}
 use Rattle.pv_image.specs.declared.image_fault.ImageFault.{ImageFault}
 use Rattle.pv_image.specs.declared.image_fault.ImageFault.TheVariants as image_fault

@@ -8,7 +8,7 @@ use Rattle.std.proofs.lemmas.List.Elements.{filter-append}
 use Rattle.pv_acl.proofs.Splitting.{lacks, split_none}
 use Rattle.pv_path.specs.Names.{is_name, is_name_byte}
 use Rattle.pv_path.proofs.PathLaws.{is_name-parts}
-use Rattle.pv_host.specs.Content.{names_among, spelled}
+use Rattle.pv_folder.specs.Content.{names_among, spelled}
 
 abbrev slash : ℕ → Bool
 slash b = b == 47

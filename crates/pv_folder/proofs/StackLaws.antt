@@ -12,8 +12,8 @@ use Rattle.pv_steps.specs.declared.node.Kind.TheVariants.{Directory, File}
 use Rattle.pv_steps.specs.declared.object.Object.{Object}
 use Rattle.pv_steps.specs.Objects.{fresh}
 use Rattle.pv_steps.specs.Trees.{Files, IsKind, kind_of, places}
-use Rattle.pv_host.specs.declared.item.HostItem.{HostItem}
-use Rattle.pv_host.specs.Lists.{is_ordered}
+use Rattle.pv_folder.specs.declared.item.HostItem.{HostItem}
+use Rattle.pv_folder.specs.Lists.{is_ordered}
 use Rattle.pv_tree.specs.Held.{root_alone}
 use Rattle.pv_folder.specs.declared.found.Found.{Found}
 use Rattle.pv_folder.specs.declared.found.Seen.{Seen}

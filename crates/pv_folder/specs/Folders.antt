@@ -8,8 +8,8 @@ use Rattle.pv_steps.specs.declared.node.Kind.TheVariants as kind
 use Rattle.pv_steps.specs.declared.object.Object.{Object}
 use Rattle.pv_steps.specs.Objects.{fresh}
 use Rattle.pv_steps.specs.Trees.{Files, places}
-use Rattle.pv_host.specs.Content.{Content, Held, HostObject, IsAbsent, IsDirectory, IsFile, held}
-use Rattle.pv_host.specs.Content as host
+use Rattle.pv_folder.specs.Content.{Content, Held, HostObject, IsAbsent, IsDirectory, IsFile, held}
+use Rattle.pv_folder.specs.Content as host
 
 -- ---- what stands in a folder
 

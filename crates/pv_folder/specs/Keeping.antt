@@ -8,8 +8,8 @@ use Rattle.pv_steps.specs.declared.step.Step.TheVariants.{MakeDir, MakeFile, Wri
 use Rattle.pv_steps.specs.Trees.{Files, Places, places}
 use Rattle.pv_steps.specs.Steps.{Can, after}
 use Rattle.pv_text.specs.Facts.{Values}
-use Rattle.pv_host.specs.Content.{Change, Content, Held, HostObject, IsAbsent, IsChanged, IsContent, IsDirectory, MayAsk, held, put_at}
-use Rattle.pv_host.specs.Content as host
+use Rattle.pv_folder.specs.Content.{Change, Content, Held, HostObject, IsAbsent, IsChanged, IsContent, IsDirectory, MayAsk, held, put_at}
+use Rattle.pv_folder.specs.Content as host
 use Rattle.pv_folder.specs.Folders.{Agrees, IsPrepared, IsSameElse, manifest_path, new_manifest_path, real_of}
 use Rattle.pv_folder.specs.Manifest.{manifest_of}
 

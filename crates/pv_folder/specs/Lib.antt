@@ -1,3 +1,7 @@
+pub mod Content
+pub mod Lists
+pub mod Memory
+pub mod Counts
 pub mod Merge
 pub mod Manifest
 pub mod Folders

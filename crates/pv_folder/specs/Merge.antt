@@ -9,7 +9,7 @@ use Rattle.pv_steps.specs.declared.node.Node.{Node}
 use Rattle.pv_steps.specs.declared.object.Object.{Object}
 use Rattle.pv_steps.specs.Objects.{fresh}
 use Rattle.pv_steps.specs.Trees.{Files, kind_of, places, tabulate}
-use Rattle.pv_metadata.specs.Nodes.{same_kind}
+use Rattle.pv_walk.specs.Nodes.{same_kind}
 
 -- the mode of a real object of which the manifest says nothing
 abbrev pub plain_mode : Kind → ℕ

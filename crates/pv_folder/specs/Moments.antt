@@ -7,8 +7,8 @@ use Rattle.pv_steps.specs.declared.step.Step.{Step}
 use Rattle.pv_steps.specs.Trees.{Files, places, tabulate}
 use Rattle.pv_steps.specs.Steps.{after}
 use Rattle.pv_steps.specs.Runs.{after_all}
-use Rattle.pv_host.specs.Content.{Change, Held, changed}
-use Rattle.pv_host.specs.Content as host
+use Rattle.pv_folder.specs.Content.{Change, Held, changed}
+use Rattle.pv_folder.specs.Content as host
 use Rattle.pv_folder.specs.Folders.{Agrees, IsSameElse, manifest_path, new_manifest_path, object_of, real_of, tree_path}
 use Rattle.pv_folder.specs.Keeping.{change_for}
 

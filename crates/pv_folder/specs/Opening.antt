@@ -13,10 +13,10 @@ use Rattle.pv_tree.specs.Held.{root_alone}
 use Rattle.pv_image.specs.declared.image_fault.ImageFault.{ImageFault}
 use Rattle.pv_image.specs.declared.image_fault.ImageFault.TheVariants as image_fault
 use Rattle.pv_image.specs.Images.{HasImageFault, IsImage}
-use Rattle.pv_host.specs.Content.{Content, HostObject, held}
-use Rattle.pv_host.specs.Content as host
-use Rattle.pv_host.specs.declared.host.HostFault.{HostFault}
-use Rattle.pv_host.specs.declared.host.HostFault.TheVariants as host_fault
+use Rattle.pv_folder.specs.Content.{Content, HostObject, held}
+use Rattle.pv_folder.specs.Content as host
+use Rattle.pv_folder.specs.declared.host.HostFault.{HostFault}
+use Rattle.pv_folder.specs.declared.host.HostFault.TheVariants as host_fault
 use Rattle.pv_folder.specs.declared.open_fault.OpenFault.{OpenFault}
 use Rattle.pv_folder.specs.declared.open_fault.OpenFault.TheVariants.{HostFailed, NotPrepared, BadManifest, OddObject, TooLarge, Memory}
 use Rattle.pv_folder.specs.Folders.{IsPrepared, manifest_path, objects_in, real_in}

@@ -5,11 +5,11 @@ use Rattle.pv_path.specs.Paths.{Path}
 use Rattle.pv_steps.specs.declared.node.Kind.TheVariants as node
 use Rattle.pv_steps.specs.declared.object.Object.{Object}
 use Rattle.pv_steps.specs.Objects.{fresh}
-use Rattle.pv_host.specs.declared.item.HostItem.{HostItem}
-use Rattle.pv_host.specs.declared.item.HostKind.{HostKind}
-use Rattle.pv_host.specs.declared.item.HostKind.TheVariants as kind
-use Rattle.pv_host.specs.Content.{Content, HostObject, held, listing}
-use Rattle.pv_host.specs.Content as host
+use Rattle.pv_folder.specs.declared.item.HostItem.{HostItem}
+use Rattle.pv_folder.specs.declared.item.HostKind.{HostKind}
+use Rattle.pv_folder.specs.declared.item.HostKind.TheVariants as kind
+use Rattle.pv_folder.specs.Content.{Content, HostObject, held, listing}
+use Rattle.pv_folder.specs.Content as host
 use Rattle.pv_folder.specs.declared.found.Found.{Found}
 use Rattle.pv_folder.specs.declared.found.Seen.{Seen}
 use Rattle.pv_folder.specs.declared.found.Seen.TheVariants as seen

@@ -4,10 +4,10 @@ use Rattle.std.proofs.Common.{refl, sym, ap, ◌∙◌, inl, inr}
 use Rattle.std.specs.Coded.{Coded, Coded-set, Unit-prop, code_by, coded_bool, coded_list, coded_option, coded_ℕ}
 use Rattle.pv_path.specs.Paths.{Path}
 use Rattle.pv_steps.specs.Trees.{Files, places}
-use Rattle.pv_host.specs.declared.item.HostKind.{HostKind}
-use Rattle.pv_host.specs.declared.item.HostKind.TheVariants as kind
-use Rattle.pv_host.specs.Content.{Content, Held, HostObject, IsAbsent, IsFile, held, kind_of}
-use Rattle.pv_host.specs.Content as host
+use Rattle.pv_folder.specs.declared.item.HostKind.{HostKind}
+use Rattle.pv_folder.specs.declared.item.HostKind.TheVariants as kind
+use Rattle.pv_folder.specs.Content.{Content, Held, HostObject, IsAbsent, IsFile, held, kind_of}
+use Rattle.pv_folder.specs.Content as host
 use Rattle.pv_folder.specs.Folders.{Agrees, IsFree, IsPrepared, real_of, tree_path}
 use Rattle.pv_folder.specs.Keeping.{IsReady}
 

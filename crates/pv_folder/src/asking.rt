@@ -3,14 +3,14 @@ ghost use Rattle.std.specs.Prelude.{◌≡◌, ◌↔◌, ◌≤◌, ◌++◌, i
 ghost use Rattle.pv_io.specs.Faults.{HasRisen};
 ghost use Rattle.pv_steps.specs.declared.node.Kind.TheVariants.{File};
 ghost use Rattle.pv_steps.specs.Trees.{IsKind, places};
-ghost use Rattle.pv_host.specs.declared.host.HostFault.TheVariants.{Failed};
-ghost use Rattle.pv_host.specs.Content.{spelled};
-ghost use Rattle.pv_host.specs.Counts.{count_after};
+ghost use Rattle.pv_folder.specs.declared.host.HostFault.TheVariants.{Failed};
+ghost use Rattle.pv_folder.specs.Content.{spelled};
+ghost use Rattle.pv_folder.specs.Counts.{count_after};
 ghost use Rattle.pv_folder.specs.Folders.{real_of, tree_path};
 ghost use Rattle.pv_folder.specs.Keeping.{IsChangedBy, MayAskFor, change_for, move, removal};
 
+use crate::host::{Host, HostFault};
 use crate::host_path::host_path;
-use pv_host::{Host, HostFault};
 use pv_path::TreePath;
 use pv_steps::{Kind, Step};
 use pv_tree::MemTree;

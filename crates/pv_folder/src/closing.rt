@@ -1,13 +1,13 @@
 //! Closing a folder: its manifest is written anew.
 ghost use Rattle.std.specs.Prelude.{◌≡◌, ◌≤◌, OnOk, OnErr, IfSome};
-ghost use Rattle.pv_host.specs.Content.{held, spelled};
-ghost use Rattle.pv_host.specs.Counts.{count_after};
+ghost use Rattle.pv_folder.specs.Content.{held, spelled};
+ghost use Rattle.pv_folder.specs.Counts.{count_after};
 ghost use Rattle.pv_folder.specs.Manifest.{IsManifest};
 ghost use Rattle.pv_folder.specs.Keeping.{HasManifest, IsClosed, IsReady, IsSameButNew};
 
 use crate::folder_tree::FolderTree;
+use crate::host::{Host, HostFault};
 use crate::host_path::below;
-use pv_host::{Host, HostFault};
 use pv_image::write_emptied;
 use pv_text::Facts;
 use std::alloc::Global;

@@ -4,15 +4,15 @@ ghost use Rattle.pv_steps.specs.declared.tree.TreeFault.TheVariants.{Failed, Mem
 ghost use Rattle.pv_steps.specs.Trees.{IsTree, places};
 ghost use Rattle.pv_steps.specs.Steps.{Can, StepFits, after};
 ghost use Rattle.pv_steps.specs.Counting.{refused, faults_after};
-ghost use Rattle.pv_host.specs.Content.{held, spelled};
-ghost use Rattle.pv_host.specs.Counts.{count_after};
+ghost use Rattle.pv_folder.specs.Content.{held, spelled};
+ghost use Rattle.pv_folder.specs.Counts.{count_after};
 ghost use Rattle.pv_folder.specs.Folders.{Agrees, tree_path};
 ghost use Rattle.pv_folder.specs.Keeping.{HasManifest, IsChangedBy, IsReady, IsSameButNew, Keeps, Moves, change_for, moves_none, moves_on, same, same_on};
 ghost use Rattle.pv_folder.specs.Sole.{agrees_prop, ready_prop};
 
 use crate::asking::ask_for;
 use crate::closing::replace_manifest;
-use pv_host::{Host, HostFault};
+use crate::host::{Host, HostFault};
 use pv_path::{NameList, TreePath};
 use pv_steps::{Node, Step, Tree, TreeFault};
 use pv_tree::{MemTree, parts_fit};

@@ -1,11 +1,11 @@
 //! What a listing of a host names, and what is seen of it.
 ghost use Rattle.std.specs.Prelude.{◌≡◌, ◌∷◌, ◌++◌, [], true, reverse, map, IfOk, OnOk};
-ghost use Rattle.pv_host.specs.Lists.{is_ordered};
+ghost use Rattle.pv_folder.specs.Lists.{is_ordered};
 ghost use Rattle.pv_folder.specs.Opening.{odd};
 ghost use Rattle.pv_folder.specs.Reading.{found_in};
 
+use crate::item::{HostItem, HostKind, HostList};
 use crate::open_fault::OpenFault;
-use pv_host::{HostItem, HostKind, HostList};
 use pv_path::{Bytes, TreePath, add_printed, child, is_name, print_path};
 use std::alloc::{AllocError, Global};
 

@@ -1,7 +1,7 @@
 //! Paths of a host, spelled in bytes.
 ghost use Rattle.std.specs.Prelude.{◌≡◌, ◌∷◌, ◌++◌, [], true, IfOk, OnOk};
 ghost use Rattle.pv_path.specs.Names.{is_name};
-ghost use Rattle.pv_host.specs.Content.{spelled};
+ghost use Rattle.pv_folder.specs.Content.{spelled};
 ghost use Rattle.pv_folder.specs.Folders.{tree_path};
 
 use pv_path::TreePath;

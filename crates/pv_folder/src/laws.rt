@@ -5,7 +5,7 @@ ghost use Rattle.pv_steps.specs.declared.step.Step.{Step};
 ghost use Rattle.pv_steps.specs.Runs.{Along, after_all};
 ghost use Rattle.pv_steps.specs.Trees.{Files, IsTree};
 ghost use Rattle.pv_text.specs.Facts.{Values};
-ghost use Rattle.pv_host.specs.Content.{Content, IsContent, held};
+ghost use Rattle.pv_folder.specs.Content.{Content, IsContent, held};
 ghost use Rattle.pv_folder.specs.Folders.{manifest_path};
 ghost use Rattle.pv_folder.specs.Keeping.{IsClosed, Keeps};
 ghost use Rattle.pv_folder.specs.Manifest.{IsManifest};

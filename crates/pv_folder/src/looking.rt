@@ -2,17 +2,18 @@
 ghost use Rattle.std.specs.Prelude.{◌≡◌, ◌≢◌, ◌≤◌, ◌∷◌, ◌++◌, [], true, false, option_map, IfOk, IfErr, IfSome, IsErrOf};
 ghost use Rattle.pv_io.specs.Faults.{HasRisen};
 ghost use Rattle.pv_path.specs.Names.{is_name};
-ghost use Rattle.pv_host.specs.declared.item.HostKind.TheVariants as kind;
-ghost use Rattle.pv_host.specs.Content.{IsContent, bytes_of, held, kind_at, listing, spelled};
+ghost use Rattle.pv_folder.specs.declared.item.HostKind.TheVariants as kind;
+ghost use Rattle.pv_folder.specs.Content.{IsContent, bytes_of, held, kind_at, listing, spelled};
 ghost use Rattle.pv_folder.specs.declared.open_fault.OpenFault.TheVariants.{HostFailed, TooLarge};
 ghost use Rattle.pv_folder.specs.Folders.{tree_path};
 ghost use Rattle.pv_folder.specs.Opening.{IsLonger, is_outer, odd};
 ghost use Rattle.pv_folder.specs.Reading.{Shows, path_of};
 
 use crate::found::{Found, Seen, odd};
+use crate::host::{FileBytes, Host};
 use crate::host_path::host_path;
+use crate::item::{HostKind, HostList};
 use crate::open_fault::OpenFault;
-use pv_host::{FileBytes, Host, HostKind, HostList};
 use pv_path::{Bytes, TreePath};
 use std::alloc::Global;
 

@@ -6,7 +6,7 @@ ghost use Rattle.pv_steps.specs.Objects.{IsObject};
 ghost use Rattle.pv_steps.specs.Steps.{on_at, put_at};
 ghost use Rattle.pv_steps.specs.Trees.{IsKind, kind_of, places};
 ghost use Rattle.pv_tree.specs.Changes.{MayHave};
-ghost use Rattle.pv_metadata.specs.Nodes.{same_kind};
+ghost use Rattle.pv_walk.specs.Nodes.{same_kind};
 ghost use Rattle.pv_folder.specs.Merge.{IsPlainAt, with_metadata, is_real_kind, merged_of};
 
 use pv_path::{Name, TreePath};

@@ -3,7 +3,7 @@ ghost use Rattle.std.specs.Prelude.{◌≡◌};
 ghost use Rattle.pv_folder.specs.declared.open_fault.OpenFault.TheVariants.{Memory};
 ghost use Rattle.pv_folder.specs.Opening.{of_host, of_image};
 
-use pv_host::HostFault;
+use crate::host::HostFault;
 use pv_image::ImageFault;
 use pv_path::Bytes;
 use std::alloc::{AllocError, AllocFailed};

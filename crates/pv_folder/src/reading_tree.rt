@@ -10,9 +10,9 @@ ghost use Rattle.pv_steps.specs.Attributes.{are_bytes};
 ghost use Rattle.pv_steps.specs.Objects.{IsObject, fresh};
 ghost use Rattle.pv_steps.specs.Trees.{IsKind};
 ghost use Rattle.pv_tree.specs.Held.{root_alone};
-ghost use Rattle.pv_host.specs.declared.item.HostKind.TheVariants as kind;
-ghost use Rattle.pv_host.specs.Lists.{is_ordered};
-ghost use Rattle.pv_host.specs.Content.{IsContent, IsDirectory, held, listing, spelled};
+ghost use Rattle.pv_folder.specs.declared.item.HostKind.TheVariants as kind;
+ghost use Rattle.pv_folder.specs.Lists.{is_ordered};
+ghost use Rattle.pv_folder.specs.Content.{IsContent, IsDirectory, held, listing, spelled};
 ghost use Rattle.pv_folder.specs.declared.open_fault.OpenFault.TheVariants.{HostFailed, TooLarge};
 ghost use Rattle.pv_folder.specs.Folders.{real_in, tree_path};
 ghost use Rattle.pv_folder.specs.Merge.{IsPlain};
@@ -20,10 +20,11 @@ ghost use Rattle.pv_folder.specs.Opening.{fault_among, is_outer, is_over, most_b
 ghost use Rattle.pv_folder.specs.Reading.{found_below, found_in, items_of, path_of, seen_object, seen_size};
 
 use crate::found::{Found, Seen, odd, push_found};
+use crate::host::Host;
+use crate::item::{HostKind, HostList};
 use crate::looking::{items_at, look};
 use crate::merging::add;
 use crate::open_fault::OpenFault;
-use pv_host::{Host, HostKind, HostList};
 use pv_path::{Bytes, TreePath, child, is_name};
 use pv_steps::{Kind, Object};
 use pv_tree::{MemTree, TreeBuilder};

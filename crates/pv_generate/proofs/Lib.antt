@@ -1,3 +1,1 @@
-pub mod PlanLaws
-pub mod GrowLaws
 pub mod TreeLaws

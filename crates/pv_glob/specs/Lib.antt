@@ -4,3 +4,10 @@ pub mod Escaping
 pub mod Matching
 pub mod Parsing
 pub mod Reading
+pub mod Marked
+pub mod Machines
+pub mod Meeting
+pub mod Pairs
+pub mod Search
+pub mod Words
+pub mod Written

@@ -11,11 +11,11 @@ use Rattle.pv_path.proofs.PathLaws.{same_path-refl, prefix_parts, prefix_whole, 
 use Rattle.pv_steps.specs.declared.object.Object.{Object}
 use Rattle.pv_steps.specs.Trees.{Files, places}
 use Rattle.pv_steps.proofs.StepLaws.{places-tabulate, among_keys}
-use Rattle.pv_metadata.specs.declared.object_state.ObjectState.{ObjectState}
-use Rattle.pv_metadata.specs.Nodes.{object_state_of, object_states_of}
-use Rattle.pv_metadata.specs.Operations.{run}
-use Rattle.pv_metadata.proofs.EditLaws.{path_cases}
-use Rattle.pv_metadata.proofs.OperationLaws.{run-twice}
+use Rattle.pv_walk.specs.declared.object_state.ObjectState.{ObjectState}
+use Rattle.pv_walk.specs.Nodes.{object_state_of, object_states_of}
+use Rattle.pv_walk.specs.Operations.{run}
+use Rattle.pv_walk.proofs.EditLaws.{path_cases}
+use Rattle.pv_walk.proofs.OperationLaws.{run-twice}
 use Rattle.pv_lines.specs.declared.line.Line.{Line}
 use Rattle.pv_walk.specs.Listing.{times}
 use Rattle.pv_walk.proofs.CountLaws.{times-filter, times-keys, same_or_not}
@@ -24,7 +24,8 @@ use Rattle.pv_table.specs.declared.action.Action.{Action}
 use Rattle.pv_table.specs.declared.action.Action.TheVariants.{Adjust}
 use Rattle.pv_table.specs.declared.action.Adjustment.{Adjustment}
 use Rattle.pv_table.specs.ActionTable.{action_of}
-use Rattle.pv_table.specs.Created.{after_each, one_is_refused, by_turn}
+use Rattle.pv_table.specs.Created.{by_turn}
+use Rattle.pv_steps.specs.Doing.{after_each, one_is_refused}
 use Rattle.pv_table.specs.Effects.{become, carried_out, is_adjusted, adjust_at, turn_after}
 use Rattle.pv_table.specs.Pointwise.{adjusts_path}
 use Rattle.pv_table.specs.Reaching.{names, names_above}

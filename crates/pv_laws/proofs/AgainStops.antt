@@ -4,7 +4,7 @@ use Rattle.std.proofs.Common.{refl, sym, subst, ◌∙◌}
 use Rattle.std.specs.List.{AllByRecursion}
 use Rattle.pv_steps.specs.Same.{Same}
 use Rattle.pv_steps.specs.Trees.{Files, places, IsTree}
-use Rattle.pv_metadata.proofs.OperationLaws.{object_states-same}
+use Rattle.pv_walk.proofs.OperationLaws.{object_states-same}
 use Rattle.pv_lines.specs.declared.line.Line.{Line}
 use Rattle.pv_lines.specs.Lines.{IsLine}
 use Rattle.pv_table.specs.Active.{are_distinct}

@@ -6,9 +6,9 @@ use Rattle.std.proofs.lemmas.Bool.{or_parts, false_from_ne_true}
 use Rattle.pv_path.specs.Paths.{Path, same_path, is_prefix, has_staging, same_path-decides}
 use Rattle.pv_path.proofs.PathLaws.{rest_under-None, same_path-refl}
 use Rattle.pv_steps.specs.Trees.{Files, places, IsTree}
-use Rattle.pv_metadata.specs.declared.object_state.ObjectState.{ObjectState}
-use Rattle.pv_metadata.specs.Nodes.{object_states_of}
-use Rattle.pv_metadata.proofs.OperationLaws.{object_states_of-same}
+use Rattle.pv_walk.specs.declared.object_state.ObjectState.{ObjectState}
+use Rattle.pv_walk.specs.Nodes.{object_states_of}
+use Rattle.pv_walk.proofs.OperationLaws.{object_states_of-same}
 use Rattle.pv_lines.specs.declared.line.Line.{Line}
 use Rattle.pv_lines.specs.declared.line.LinePath.{LinePath}
 use Rattle.pv_lines.specs.Lines.{IsLine}
@@ -17,7 +17,8 @@ use Rattle.pv_table.specs.declared.action.Action.{Action}
 use Rattle.pv_table.specs.declared.action.Action.TheVariants.{Copy}
 use Rattle.pv_table.specs.Active.{in_create_order}
 use Rattle.pv_table.specs.ActionTable.{action_of}
-use Rattle.pv_table.specs.Created.{after_each, by_turn, by_line, created}
+use Rattle.pv_table.specs.Created.{by_turn, by_line, created}
+use Rattle.pv_steps.specs.Doing.{after_each}
 use Rattle.pv_table.specs.Effects.{carried_out, turn_after}
 use Rattle.pv_table.specs.Reaching.{names, path_in, is_creating, governs}
 use Rattle.pv_table.specs.Repeatable.{sets_of}

@@ -12,9 +12,9 @@ use Rattle.pv_steps.specs.declared.why.Why.{Why}
 use Rattle.pv_steps.specs.Refusal.{refusal}
 use Rattle.pv_steps.specs.Trees.{Files, places, IsTree}
 use Rattle.pv_steps.proofs.StepLaws.{is_among, among_right, among_left, later_among}
-use Rattle.pv_metadata.specs.declared.object_state.ObjectState.{ObjectState}
-use Rattle.pv_metadata.specs.Nodes.{object_states_of}
-use Rattle.pv_metadata.specs.Operations.{run}
+use Rattle.pv_walk.specs.declared.object_state.ObjectState.{ObjectState}
+use Rattle.pv_walk.specs.Nodes.{object_states_of}
+use Rattle.pv_walk.specs.Operations.{run}
 use Rattle.pv_lines.specs.declared.line.Line.{Line}
 use Rattle.pv_lines.specs.declared.line.LinePath.{LinePath}
 use Rattle.pv_lines.specs.Lines.{IsLine}
@@ -27,7 +27,8 @@ use Rattle.pv_table.specs.declared.reason.Reason.TheVariants as reason
 use Rattle.pv_table.specs.Active.{Listed, ordered, in_create_order}
 use Rattle.pv_table.specs.Asked.{operations}
 use Rattle.pv_table.specs.ActionTable.{action_of}
-use Rattle.pv_table.specs.Created.{after_each, one_is_refused, by_turn, by_line, created, IsQuiet}
+use Rattle.pv_table.specs.Created.{by_turn, by_line, created, IsQuiet}
+use Rattle.pv_steps.specs.Doing.{after_each, one_is_refused}
 use Rattle.pv_table.specs.Effects.{turned, prepare, carried_out, turn_after, turns}
 use Rattle.pv_table.specs.Pointwise.{ObjectStates, view, parent_object_state, after_turn, at_made, point, point_paths, pointwise_after, state}
 use Rattle.pv_table.specs.Reaching.{names, path_in, reaches, governs}

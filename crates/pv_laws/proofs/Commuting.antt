@@ -8,11 +8,11 @@ use Rattle.pv_path.specs.Paths.{has_names, Path, same_path, is_prefix, rest_unde
 use Rattle.pv_path.proofs.PathLaws.{is_prefix-append, is_prefix-antisym, same_path-refl, rest_under-None, rest_under-Some, has_staging-append}
 use Rattle.pv_steps.specs.Same.{Same}
 use Rattle.pv_steps.specs.Trees.{Files, places, IsTree}
-use Rattle.pv_metadata.specs.declared.object_state.ObjectState.{ObjectState}
-use Rattle.pv_metadata.specs.Nodes.{object_states_of}
-use Rattle.pv_metadata.specs.Operations.{run}
-use Rattle.pv_metadata.proofs.EditLaws.{path_cases}
-use Rattle.pv_metadata.proofs.OperationLaws.{object_states-same}
+use Rattle.pv_walk.specs.declared.object_state.ObjectState.{ObjectState}
+use Rattle.pv_walk.specs.Nodes.{object_states_of}
+use Rattle.pv_walk.specs.Operations.{run}
+use Rattle.pv_walk.proofs.EditLaws.{path_cases}
+use Rattle.pv_walk.proofs.OperationLaws.{object_states-same}
 use Rattle.pv_lines.specs.declared.line.Line.{Line}
 use Rattle.pv_lines.specs.declared.line.LinePath.{LinePath}
 use Rattle.pv_lines.specs.Lines.{IsLine}
@@ -23,7 +23,8 @@ use Rattle.pv_table.specs.declared.reason.Reason.TheVariants as reason
 use Rattle.pv_table.specs.Active.{is_adjusting_line}
 use Rattle.pv_table.specs.Asked.{clears_below, operations}
 use Rattle.pv_table.specs.ActionTable.{action_of}
-use Rattle.pv_table.specs.Created.{after_each, one_is_refused, by_turn, by_line}
+use Rattle.pv_table.specs.Created.{by_turn, by_line}
+use Rattle.pv_steps.specs.Doing.{after_each, one_is_refused}
 use Rattle.pv_table.specs.Effects.{carried_out}
 use Rattle.pv_table.specs.Pointwise.{after_turn}
 use Rattle.pv_table.specs.Reaching.{names, names_above, path_in, is_creating, reaches_below, reaches, governs}
@@ -34,7 +35,7 @@ use Rattle.pv_laws.proofs.AllPoints.{IsSafe, line_pointed, turns_copy, copy_idle
 use Rattle.pv_laws.proofs.Copies.{turns_same, childless_less}
 use Rattle.pv_laws.proofs.CopyEnds.{inside_same, same_copy, turn_at, copy_inside, plain_path, plain_source}
 use Rattle.pv_laws.proofs.CopyShapes.{at_outside}
-use Rattle.pv_laws.proofs.Adjustment.{named_above}
+use Rattle.pv_laws.proofs.Adjustment.{named_above, turn_open, first_turn}
 use Rattle.pv_laws.proofs.AllFrames.{each_kept}
 use Rattle.pv_laws.proofs.Lines.{line_is_plain, line_point, copy_literal, copy_path, copy_source, creating_row, creating_adjusts_none, copies_or_not}
 use Rattle.pv_laws.proofs.Making.{same_unnamed, IsShaped}
@@ -43,7 +44,6 @@ use Rattle.pv_laws.proofs.Repeated as repeated
 use Rattle.pv_laws.proofs.Repeated.{IsAskedAt, asked_at, adjust_adjusts, deep_reaches}
 use Rattle.pv_laws.proofs.Sets.{impossible, is_adjustment, asked, sets_adjust}
 use Rattle.pv_laws.proofs.Shapes.{tree_shaped}
-use Rattle.pv_laws.proofs.Adjustment.{turn_open, first_turn}
 use Rattle.pv_path.proofs.Tests.{same_tests, true_not_false}
 
 -- the line names its own path alone

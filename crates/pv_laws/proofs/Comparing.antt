@@ -3,12 +3,12 @@ use Rattle.std.specs.Prelude.{◌≡◌, ℕ, true, cond, List, [], ◌∷◌, S
 use Rattle.std.proofs.Common.{refl, ap, ◌∙◌}
 use Rattle.std.specs.List.{list_all}
 use Rattle.pv_steps.specs.declared.object.Object.{Object}
-use Rattle.pv_metadata.specs.declared.object_state.ObjectState.{ObjectState}
-use Rattle.pv_metadata.specs.declared.operation.Operation.{Operation}
-use Rattle.pv_metadata.specs.declared.operation.Operation.TheVariants.{Make, Renew, Erase, Apply}
-use Rattle.pv_metadata.specs.Nodes.{object_state_of}
-use Rattle.pv_metadata.specs.Operations as operations
-use Rattle.pv_metadata.specs.Operations.{admits, run}
+use Rattle.pv_walk.specs.declared.object_state.ObjectState.{ObjectState}
+use Rattle.pv_walk.specs.declared.operation.Operation.{Operation}
+use Rattle.pv_walk.specs.declared.operation.Operation.TheVariants.{Make, Renew, Erase, Apply}
+use Rattle.pv_walk.specs.Nodes.{object_state_of}
+use Rattle.pv_walk.specs.Operations as operations
+use Rattle.pv_walk.specs.Operations.{admits, run}
 use Rattle.pv_table.specs.Effects.{restamped, become}
 use Rattle.pv_table.proofs.Restamping.{object_state_restamped}
 use Rattle.pv_laws.proofs.Sets.{impossible, is_adjustment}

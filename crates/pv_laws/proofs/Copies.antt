@@ -13,9 +13,9 @@ use Rattle.pv_steps.specs.Objects.{is_directory}
 use Rattle.pv_steps.specs.Trees.{Files, places, child_name}
 use Rattle.pv_steps.proofs.NameLaws.{child_name-Some}
 use Rattle.pv_steps.proofs.StepLaws.{is_among, among_keys, later_among}
-use Rattle.pv_metadata.specs.declared.object_state.ObjectState.{ObjectState}
-use Rattle.pv_metadata.specs.Nodes.{object_states_of, same_kind}
-use Rattle.pv_metadata.proofs.EditLaws.{path_cases}
+use Rattle.pv_walk.specs.declared.object_state.ObjectState.{ObjectState}
+use Rattle.pv_walk.specs.Nodes.{object_states_of, same_kind}
+use Rattle.pv_walk.proofs.EditLaws.{path_cases}
 use Rattle.pv_table.specs.declared.action.Copying.{Copying}
 use Rattle.pv_table.specs.declared.action.Action.TheVariants.{Copy}
 use Rattle.pv_table.specs.Effects.{turned, prepare, carried_out}

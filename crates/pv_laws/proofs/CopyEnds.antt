@@ -8,18 +8,19 @@ use Rattle.pv_path.specs.Paths.{Path, is_prefix, rest_under, has_staging}
 use Rattle.pv_path.proofs.PathLaws.{is_prefix-append, is_prefix-refl, is_prefix-antisym, rest_under-self, rest_under-append, has_staging-append}
 use Rattle.pv_steps.specs.Objects.{is_directory}
 use Rattle.pv_steps.specs.Trees.{Files, places}
-use Rattle.pv_metadata.specs.declared.object_state.ObjectState.{ObjectState}
-use Rattle.pv_metadata.specs.declared.operation.Operation.{Operation}
-use Rattle.pv_metadata.specs.Dividing.{parts}
-use Rattle.pv_metadata.specs.Nodes.{object_states_of, same_kind}
-use Rattle.pv_metadata.specs.Operations.{run}
-use Rattle.pv_metadata.specs.Reasons.{IsRepeatable}
+use Rattle.pv_walk.specs.declared.object_state.ObjectState.{ObjectState}
+use Rattle.pv_walk.specs.declared.operation.Operation.{Operation}
+use Rattle.pv_walk.specs.Dividing.{parts}
+use Rattle.pv_walk.specs.Nodes.{object_states_of, same_kind}
+use Rattle.pv_walk.specs.Operations.{run}
+use Rattle.pv_walk.specs.Reasons.{IsRepeatable}
 use Rattle.pv_lines.specs.declared.line.Line.{Line}
 use Rattle.pv_table.specs.declared.action.Copying.{Copying}
 use Rattle.pv_table.specs.declared.action.Action.{Action}
 use Rattle.pv_table.specs.declared.action.Action.TheVariants.{Copy}
 use Rattle.pv_table.specs.ActionTable.{action_of}
-use Rattle.pv_table.specs.Created.{after_each, one_is_refused, by_turn, by_line}
+use Rattle.pv_table.specs.Created.{by_turn, by_line}
+use Rattle.pv_steps.specs.Doing.{after_each, one_is_refused}
 use Rattle.pv_table.specs.Effects.{carried_out}
 use Rattle.pv_table.specs.Pointwise.{after_turn}
 use Rattle.pv_table.specs.Reaching.{path_in}

@@ -6,12 +6,12 @@ use Rattle.std.proofs.lemmas.Bool.{and_parts, and_from}
 use Rattle.pv_path.specs.Paths.{Path}
 use Rattle.pv_steps.specs.declared.node.Kind.{Kind}
 use Rattle.pv_steps.specs.Objects.{is_directory}
-use Rattle.pv_metadata.specs.declared.object_state.ObjectState.{ObjectState}
-use Rattle.pv_metadata.specs.declared.operation.Operation.{Operation}
-use Rattle.pv_metadata.specs.Nodes.{same_kind}
-use Rattle.pv_metadata.specs.Operations.{run}
-use Rattle.pv_metadata.specs.Reasons.{IsRepeatable}
-use Rattle.pv_metadata.proofs.OperationLaws.{absorbed, run-append}
+use Rattle.pv_walk.specs.declared.object_state.ObjectState.{ObjectState}
+use Rattle.pv_walk.specs.declared.operation.Operation.{Operation}
+use Rattle.pv_walk.specs.Nodes.{same_kind}
+use Rattle.pv_walk.specs.Operations.{run}
+use Rattle.pv_walk.specs.Reasons.{IsRepeatable}
+use Rattle.pv_walk.proofs.OperationLaws.{absorbed, run-append}
 use Rattle.pv_table.specs.declared.action.Copying.{Copying}
 use Rattle.pv_table.specs.Pointwise.{after_turn}
 use Rattle.pv_table.specs.Turns.{Turn, View, copy_of, is_childless, copying_turn}
@@ -19,8 +19,8 @@ use Rattle.pv_laws.proofs.Sets.{is_adjustment}
 use Rattle.pv_laws.proofs.Shapes.{IsLike, adjusted_like}
 use Rattle.pv_laws.proofs.Stops.{take_after}
 use Rattle.pv_laws.proofs.Ways.{all_take, parts_adjust}
-use Rattle.pv_metadata.specs.Dividing.{parts}
-use Rattle.pv_metadata.proofs.Dividing.{run-parts}
+use Rattle.pv_walk.specs.Dividing.{parts}
+use Rattle.pv_walk.proofs.Dividing.{run-parts}
 use Rattle.pv_walk.specs.Copying.{Subtree}
 
 -- what is set by a line, then in part by later ones, is set whole by both again

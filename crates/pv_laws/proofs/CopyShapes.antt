@@ -10,13 +10,13 @@ use Rattle.pv_path.proofs.PathLaws.{has_names-append, has_names-both, has_names-
 use Rattle.pv_steps.specs.declared.node.Kind.{Kind}
 use Rattle.pv_steps.specs.Objects.{is_directory}
 use Rattle.pv_steps.specs.Trees.{Files, places}
-use Rattle.pv_metadata.specs.declared.object_state.ObjectState.{ObjectState}
-use Rattle.pv_metadata.specs.declared.object_state.Body.{Body}
-use Rattle.pv_metadata.specs.Nodes.{object_states_of, is_link, same_kind}
-use Rattle.pv_metadata.specs.declared.object_state.Metadata.{Metadata}
-use Rattle.pv_metadata.specs.Operations.{with_mode, run}
+use Rattle.pv_walk.specs.declared.object_state.ObjectState.{ObjectState}
+use Rattle.pv_walk.specs.declared.object_state.Body.{Body}
+use Rattle.pv_walk.specs.Nodes.{object_states_of, is_link, same_kind}
+use Rattle.pv_walk.specs.declared.object_state.Metadata.{Metadata}
+use Rattle.pv_walk.specs.Operations.{with_mode, run}
 use Rattle.pv_lines.specs.declared.line.LineMode.{LineMode}
-use Rattle.pv_metadata.proofs.EditLaws.{path_cases}
+use Rattle.pv_walk.proofs.EditLaws.{path_cases}
 use Rattle.pv_walk.specs.Preparing.{IsAbove}
 use Rattle.pv_table.specs.declared.action.Copying.{Copying}
 use Rattle.pv_table.specs.declared.action.Action.TheVariants.{Copy}

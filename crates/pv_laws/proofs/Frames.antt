@@ -6,11 +6,11 @@ use Rattle.std.specs.List.{list_all, AllByRecursion}
 use Rattle.std.proofs.lemmas.Bool.{or_parts, and_parts}
 use Rattle.pv_path.specs.Paths.{Path, same_path, is_prefix, has_staging, same_path-decides}
 use Rattle.pv_steps.specs.Trees.{Files, places}
-use Rattle.pv_metadata.specs.declared.object_state.ObjectState.{ObjectState}
-use Rattle.pv_metadata.specs.declared.operation.Test.{Test}
-use Rattle.pv_metadata.specs.Dividing.{parts}
-use Rattle.pv_metadata.specs.Nodes.{object_states_of}
-use Rattle.pv_metadata.specs.Operations.{run}
+use Rattle.pv_walk.specs.declared.object_state.ObjectState.{ObjectState}
+use Rattle.pv_walk.specs.declared.operation.Test.{Test}
+use Rattle.pv_walk.specs.Dividing.{parts}
+use Rattle.pv_walk.specs.Nodes.{object_states_of}
+use Rattle.pv_walk.specs.Operations.{run}
 use Rattle.pv_lines.specs.declared.line.Line.{Line}
 use Rattle.pv_lines.specs.declared.line.LinePath.{LinePath}
 use Rattle.pv_lines.specs.Lines.{IsLine}
@@ -20,7 +20,8 @@ use Rattle.pv_table.specs.declared.action.Making.{Making}
 use Rattle.pv_table.specs.declared.action.Adjustment.{Adjustment}
 use Rattle.pv_table.specs.Asked.{clears_below, made_at, operations}
 use Rattle.pv_table.specs.ActionTable.{action_of}
-use Rattle.pv_table.specs.Created.{after_each, by_turn, by_line}
+use Rattle.pv_table.specs.Created.{by_turn, by_line}
+use Rattle.pv_steps.specs.Doing.{after_each}
 use Rattle.pv_table.specs.Effects.{carried_out, is_adjusted, turn_after}
 use Rattle.pv_table.specs.Pointwise.{adjusts_path}
 use Rattle.pv_table.specs.Reaching.{names, names_above, path_in, is_creating, is_deep, reaches_below, reaches, governs}

@@ -6,16 +6,17 @@ use Rattle.std.proofs.lemmas.List.Folds.{list_all-append}
 use Rattle.std.proofs.lemmas.Bool.{or_parts}
 use Rattle.pv_path.specs.Paths.{Path, is_prefix, has_staging}
 use Rattle.pv_steps.specs.Trees.{Files, places}
-use Rattle.pv_metadata.specs.Dividing.{parts}
-use Rattle.pv_metadata.specs.Nodes.{object_states_of}
-use Rattle.pv_metadata.specs.Operations.{run}
-use Rattle.pv_metadata.proofs.Dividing.{run-parts}
-use Rattle.pv_metadata.proofs.OperationLaws.{object_states_of-same, run-append}
+use Rattle.pv_walk.specs.Dividing.{parts}
+use Rattle.pv_walk.specs.Nodes.{object_states_of}
+use Rattle.pv_walk.specs.Operations.{run}
+use Rattle.pv_walk.proofs.Dividing.{run-parts}
+use Rattle.pv_walk.proofs.OperationLaws.{object_states_of-same, run-append}
 use Rattle.pv_lines.specs.declared.line.Line.{Line}
 use Rattle.pv_table.specs.Active.{is_adjusting_line}
 use Rattle.pv_table.specs.Asked.{operations, operations_of}
 use Rattle.pv_table.specs.ActionTable.{action_of}
-use Rattle.pv_table.specs.Created.{after_each, one_is_refused, by_line}
+use Rattle.pv_table.specs.Created.{by_line}
+use Rattle.pv_steps.specs.Doing.{after_each, one_is_refused}
 use Rattle.pv_table.specs.Reaching.{path_in}
 use Rattle.pv_table.specs.Turns.{copied}
 use Rattle.pv_laws.specs.Copying.{OnWayOf, copy_before, copy_done, other, PartwayOf}

@@ -9,12 +9,12 @@ use Rattle.pv_steps.specs.declared.why.Why.{Why}
 use Rattle.pv_steps.specs.Objects.{is_directory}
 use Rattle.pv_steps.specs.Refusal.{refusal}
 use Rattle.pv_steps.specs.Trees.{Files, places}
-use Rattle.pv_metadata.specs.declared.object_state.ObjectState.{ObjectState}
-use Rattle.pv_metadata.specs.Dividing.{parts}
-use Rattle.pv_metadata.specs.Nodes.{object_states_of}
-use Rattle.pv_metadata.specs.Operations.{run}
-use Rattle.pv_metadata.proofs.Dividing.{run-parts}
-use Rattle.pv_metadata.proofs.OperationLaws.{run-append}
+use Rattle.pv_walk.specs.declared.object_state.ObjectState.{ObjectState}
+use Rattle.pv_walk.specs.Dividing.{parts}
+use Rattle.pv_walk.specs.Nodes.{object_states_of}
+use Rattle.pv_walk.specs.Operations.{run}
+use Rattle.pv_walk.proofs.Dividing.{run-parts}
+use Rattle.pv_walk.proofs.OperationLaws.{run-append}
 use Rattle.pv_lines.specs.declared.line.Line.{Line}
 use Rattle.pv_lines.specs.declared.line.LinePath.{LinePath}
 use Rattle.pv_lines.specs.declared.line.LinePath.TheVariants.{Literal, Glob}
@@ -33,7 +33,8 @@ use Rattle.pv_table.specs.declared.action.Adjustment.{Adjustment}
 use Rattle.pv_table.specs.Active.{is_adjusting_line}
 use Rattle.pv_table.specs.Asked.{made_at, operations, operations_of}
 use Rattle.pv_table.specs.ActionTable.{action_of, source_of}
-use Rattle.pv_table.specs.Created.{after_each, one_is_refused, by_turn, by_line}
+use Rattle.pv_table.specs.Created.{by_turn, by_line}
+use Rattle.pv_steps.specs.Doing.{after_each, one_is_refused}
 use Rattle.pv_table.specs.Effects.{carried_out, turns}
 use Rattle.pv_table.specs.Pointwise.{adjusts_path}
 use Rattle.pv_table.specs.Reaching.{names, path_in, is_creating}

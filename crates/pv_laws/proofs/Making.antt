@@ -16,13 +16,13 @@ use Rattle.pv_steps.specs.declared.object.Object.{Object}
 use Rattle.pv_steps.specs.Objects.{is_directory, modified}
 use Rattle.pv_steps.specs.Trees.{Files, Places, places}
 use Rattle.pv_steps.proofs.StepLaws.{is_among}
-use Rattle.pv_metadata.specs.declared.object_state.ObjectState.{ObjectState}
-use Rattle.pv_metadata.specs.declared.operation.Operation.{Operation}
-use Rattle.pv_metadata.specs.declared.operation.Operation.TheVariants.{Make, Renew, Erase}
-use Rattle.pv_metadata.specs.declared.operation.Test.{Test}
-use Rattle.pv_metadata.specs.Nodes.{object_state_of, object_states_of, is_link, same_kind, same_substance}
-use Rattle.pv_metadata.specs.Operations.{stays, done, run}
-use Rattle.pv_metadata.proofs.EditLaws.{path_cases, on_at-here, on_at-else}
+use Rattle.pv_walk.specs.declared.object_state.ObjectState.{ObjectState}
+use Rattle.pv_walk.specs.declared.operation.Operation.{Operation}
+use Rattle.pv_walk.specs.declared.operation.Operation.TheVariants.{Make, Renew, Erase}
+use Rattle.pv_walk.specs.declared.operation.Test.{Test}
+use Rattle.pv_walk.specs.Nodes.{object_state_of, object_states_of, is_link, same_kind, same_substance}
+use Rattle.pv_walk.specs.Operations.{stays, done, run}
+use Rattle.pv_walk.proofs.EditLaws.{path_cases, on_at-here, on_at-else}
 use Rattle.pv_walk.specs.Copying.{Subtree, object_of, with_subtree, single}
 use Rattle.pv_walk.specs.declared.new_file.NewKind.{NewKind}
 use Rattle.pv_walk.specs.Staging.{new_object, new_kind, new_major, new_minor}

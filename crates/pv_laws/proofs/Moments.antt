@@ -1,7 +1,7 @@
 -- Runs of lines at different moments, from trees that are the same but for stamps: the trees that they leave, the messages and
 -- the refusals.
 use Rattle.std.specs.Prelude.{◌≡◌, ℕ, List}
-use Rattle.pv_metadata.proofs.OperationLaws.{object_states_of-same, object_states-same}
+use Rattle.pv_walk.proofs.OperationLaws.{object_states_of-same, object_states-same}
 use Rattle.pv_lines.specs.declared.line.Line.{Line}
 use Rattle.pv_steps.specs.Trees.{Files, places}
 use Rattle.pv_table.specs.Created.{created, created_messages, IsQuiet}

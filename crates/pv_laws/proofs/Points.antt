@@ -12,11 +12,11 @@ use Rattle.pv_path.specs.Paths.{Path, path_cmp, path_total, same_path, is_prefix
 use Rattle.pv_path.proofs.PathLaws.{path_cmp-exact, rest_under-self, rest_under-Some, is_some-rest_under, same_path-no}
 use Rattle.pv_steps.specs.Trees.{Files}
 use Rattle.pv_steps.proofs.StepLaws.{is_among, among_right, among_left, later_among}
-use Rattle.pv_metadata.specs.declared.object_state.ObjectState.{ObjectState}
-use Rattle.pv_metadata.specs.declared.operation.Operation.{Operation}
-use Rattle.pv_metadata.specs.declared.operation.Operation.TheVariants.{Make, Erase}
-use Rattle.pv_metadata.specs.Operations.{done, run}
-use Rattle.pv_metadata.proofs.EditLaws.{path_cases}
+use Rattle.pv_walk.specs.declared.object_state.ObjectState.{ObjectState}
+use Rattle.pv_walk.specs.declared.operation.Operation.{Operation}
+use Rattle.pv_walk.specs.declared.operation.Operation.TheVariants.{Make, Erase}
+use Rattle.pv_walk.specs.Operations.{done, run}
+use Rattle.pv_walk.proofs.EditLaws.{path_cases}
 use Rattle.pv_lines.specs.declared.line.Line.{Line}
 use Rattle.pv_walk.specs.Preparing.{parents_of}
 use Rattle.pv_table.specs.declared.action.Action.{Action}
@@ -25,7 +25,8 @@ use Rattle.pv_table.specs.declared.action.Making.{Making}
 use Rattle.pv_table.specs.declared.action.Adjustment.{Adjustment}
 use Rattle.pv_table.specs.Asked.{clears_below, made_at, operations}
 use Rattle.pv_table.specs.ActionTable.{action_of}
-use Rattle.pv_table.specs.Created.{one_is_refused, by_line}
+use Rattle.pv_table.specs.Created.{by_line}
+use Rattle.pv_steps.specs.Doing.{one_is_refused}
 use Rattle.pv_table.specs.Pointwise.{ObjectStates, tabulated, parent_object_state, after_turn, at_made, adjusts_path, point, point_paths}
 use Rattle.pv_table.specs.Reaching.{path_in}
 use Rattle.pv_table.specs.Repeatable.{sets_of}

@@ -7,11 +7,11 @@ use Rattle.pv_path.specs.Paths.{Path, same_path, is_prefix, parent_of, has_stagi
 use Rattle.pv_steps.specs.declared.object.Object.{Object}
 use Rattle.pv_steps.specs.Trees.{Places}
 use Rattle.pv_steps.specs.Steps.{touched, made, put_at}
-use Rattle.pv_metadata.specs.declared.object_state.ObjectState.{ObjectState}
-use Rattle.pv_metadata.specs.declared.operation.Operation.TheVariants.{Make}
-use Rattle.pv_metadata.specs.Edits.{cut, taken, all_taken}
-use Rattle.pv_metadata.specs.Nodes.{object_state_of, object_states_of}
-use Rattle.pv_metadata.specs.Operations.{done}
+use Rattle.pv_walk.specs.declared.object_state.ObjectState.{ObjectState}
+use Rattle.pv_walk.specs.declared.operation.Operation.TheVariants.{Make}
+use Rattle.pv_walk.specs.Edits.{cut, taken, all_taken}
+use Rattle.pv_walk.specs.Nodes.{object_state_of, object_states_of}
+use Rattle.pv_walk.specs.Operations.{done}
 use Rattle.pv_walk.specs.Preparing.{parents_of, parent_file, with_parent, prepared}
 use Rattle.pv_walk.specs.Staging.{staging_names, is_under_any, new_object}
 use Rattle.pv_walk.proofs.PreparedLaws.{object_states_of-touched, stands_in, has_some, in_prefixes, in_parents, parent_no_prefix, under_no_stage}

@@ -7,13 +7,13 @@ use Rattle.pv_path.specs.Paths.{Path, is_prefix, has_staging}
 use Rattle.pv_path.proofs.PathLaws.{same_path-refl, is_prefix-refl, is_prefix-trans, prefixes_compare, rest_under-None}
 use Rattle.pv_steps.specs.Trees.{Files, places}
 use Rattle.pv_steps.specs.Objects.{is_directory}
-use Rattle.pv_metadata.specs.declared.object_state.ObjectState.{ObjectState}
-use Rattle.pv_metadata.specs.declared.operation.Operation.TheVariants.{Make}
-use Rattle.pv_metadata.specs.declared.operation.Test.{Test}
-use Rattle.pv_metadata.specs.Dividing.{parts}
-use Rattle.pv_metadata.specs.Nodes.{object_state_of, object_states_of, same_kind, same_substance}
-use Rattle.pv_metadata.specs.Operations.{run}
-use Rattle.pv_metadata.proofs.OperationLaws.{object_states_of-same}
+use Rattle.pv_walk.specs.declared.object_state.ObjectState.{ObjectState}
+use Rattle.pv_walk.specs.declared.operation.Operation.TheVariants.{Make}
+use Rattle.pv_walk.specs.declared.operation.Test.{Test}
+use Rattle.pv_walk.specs.Dividing.{parts}
+use Rattle.pv_walk.specs.Nodes.{object_state_of, object_states_of, same_kind, same_substance}
+use Rattle.pv_walk.specs.Operations.{run}
+use Rattle.pv_walk.proofs.OperationLaws.{object_states_of-same}
 use Rattle.pv_lines.specs.declared.line.Line.{Line}
 use Rattle.pv_walk.specs.Staging.{new_object, new_kind}
 use Rattle.pv_table.specs.declared.action.Copying.{Copying}
@@ -24,7 +24,8 @@ use Rattle.pv_table.specs.declared.action.Adjustment.{Adjustment}
 use Rattle.pv_table.specs.Active.{is_adjusting_line}
 use Rattle.pv_table.specs.Asked.{first_of, clears_below, operations}
 use Rattle.pv_table.specs.ActionTable.{action_of}
-use Rattle.pv_table.specs.Created.{after_each, one_is_refused, by_turn, by_line}
+use Rattle.pv_table.specs.Created.{by_turn, by_line}
+use Rattle.pv_steps.specs.Doing.{after_each, one_is_refused}
 use Rattle.pv_table.specs.Effects.{carried_out}
 use Rattle.pv_table.specs.Pointwise.{parent_object_state}
 use Rattle.pv_table.specs.Reaching.{path_in}

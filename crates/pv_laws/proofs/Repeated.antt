@@ -7,15 +7,15 @@ use Rattle.std.proofs.lemmas.List.Folds.{list_any-append, list_all-append}
 use Rattle.std.proofs.lemmas.Bool.{or_parts, or_left, false_from_ne_true, and_parts}
 use Rattle.pv_path.specs.Paths.{has_names, Path, same_path, is_prefix, has_staging, same_path-decides}
 use Rattle.pv_path.proofs.PathLaws.{is_prefix-refl}
-use Rattle.pv_metadata.specs.declared.operation.Change.{Change}
-use Rattle.pv_metadata.specs.declared.operation.Operation.{Operation}
-use Rattle.pv_metadata.specs.declared.operation.Operation.TheVariants.{Make, Erase}
-use Rattle.pv_metadata.specs.declared.operation.Test.{Test}
-use Rattle.pv_metadata.specs.Dividing.{parts_of, parts}
-use Rattle.pv_metadata.specs.Reasons as reasons
-use Rattle.pv_metadata.specs.Reasons.{is_adjusting, is_append, is_masked, gives_base, is_make, is_renewal, is_erasure, is_idle, has_append, has_mixed_mask, makes_late, has_late_make}
-use Rattle.pv_metadata.proofs.Dividing.{repeatable-parts}
-use Rattle.pv_metadata.proofs.EditLaws.{path_cases}
+use Rattle.pv_walk.specs.declared.operation.Change.{Change}
+use Rattle.pv_walk.specs.declared.operation.Operation.{Operation}
+use Rattle.pv_walk.specs.declared.operation.Operation.TheVariants.{Make, Erase}
+use Rattle.pv_walk.specs.declared.operation.Test.{Test}
+use Rattle.pv_walk.specs.Dividing.{parts_of, parts}
+use Rattle.pv_walk.specs.Reasons as reasons
+use Rattle.pv_walk.specs.Reasons.{is_adjusting, is_append, is_masked, gives_base, is_make, is_renewal, is_erasure, is_idle, has_append, has_mixed_mask, makes_late, has_late_make}
+use Rattle.pv_walk.proofs.Dividing.{repeatable-parts}
+use Rattle.pv_walk.proofs.EditLaws.{path_cases}
 use Rattle.pv_lines.specs.declared.line.Line.{Line}
 use Rattle.pv_lines.specs.declared.line.LinePath.{LinePath}
 use Rattle.pv_lines.specs.declared.line.LinePath.TheVariants.{Literal, Glob}

@@ -9,18 +9,18 @@ use Rattle.pv_acl.specs.Parts.{part_of_mode, special_of}
 use Rattle.pv_steps.specs.declared.node.Kind.{Kind}
 use Rattle.pv_steps.specs.declared.node.Kind.TheVariants.{Directory, File}
 use Rattle.pv_steps.specs.Objects.{is_directory}
-use Rattle.pv_metadata.specs.declared.object_state.ObjectState.{ObjectState}
-use Rattle.pv_metadata.specs.declared.operation.Change.TheVariants.{Write, Append, Owner, Mode}
-use Rattle.pv_metadata.specs.declared.operation.Guard.{Guard}
-use Rattle.pv_metadata.specs.declared.operation.Guard.TheVariants.{Every, NoLink, Only}
-use Rattle.pv_metadata.specs.declared.operation.Operation.{Operation}
-use Rattle.pv_metadata.specs.declared.operation.Operation.TheVariants.{Make, Renew, Erase, Apply}
-use Rattle.pv_metadata.specs.Masks.{with_masked}
-use Rattle.pv_metadata.specs.Nodes.{object_state_of, is_file, is_link, same_kind}
-use Rattle.pv_metadata.specs.Operations.{admits, changed, run}
-use Rattle.pv_metadata.specs.Reasons.{is_adjusting, is_masked, gives_base, is_make, is_renewal, is_erasure, is_idle, has_append, has_mixed_mask, makes_late, IsRepeatable}
-use Rattle.pv_metadata.proofs.Absorbing.{with_masked-own}
-use Rattle.pv_metadata.proofs.OperationLaws.{run-append}
+use Rattle.pv_walk.specs.declared.object_state.ObjectState.{ObjectState}
+use Rattle.pv_walk.specs.declared.operation.Change.TheVariants.{Write, Append, Owner, Mode}
+use Rattle.pv_walk.specs.declared.operation.Guard.{Guard}
+use Rattle.pv_walk.specs.declared.operation.Guard.TheVariants.{Every, NoLink, Only}
+use Rattle.pv_walk.specs.declared.operation.Operation.{Operation}
+use Rattle.pv_walk.specs.declared.operation.Operation.TheVariants.{Make, Renew, Erase, Apply}
+use Rattle.pv_walk.specs.Masks.{with_masked}
+use Rattle.pv_walk.specs.Nodes.{object_state_of, is_file, is_link, same_kind}
+use Rattle.pv_walk.specs.Operations.{admits, changed, run}
+use Rattle.pv_walk.specs.Reasons.{is_adjusting, is_masked, gives_base, is_make, is_renewal, is_erasure, is_idle, has_append, has_mixed_mask, makes_late, IsRepeatable}
+use Rattle.pv_walk.proofs.Absorbing.{with_masked-own}
+use Rattle.pv_walk.proofs.OperationLaws.{run-append}
 use Rattle.pv_lines.specs.declared.line.Argument.{Argument}
 use Rattle.pv_lines.specs.declared.line.Argument.TheVariants as argument
 use Rattle.pv_lines.specs.declared.line.Line.{Line}
@@ -36,7 +36,7 @@ use Rattle.pv_table.specs.declared.action.Adjustment.{Adjustment}
 use Rattle.pv_table.specs.ActionTable.{id_for_new, id_to_set, mode_for_new, renewal, without_links, mode_to_set, owners_and_mode, bytes_of, link_to, device, contents_to_set, making, copying, adjustment, writing, set_by, actions, action_of}
 use Rattle.pv_table.specs.Reaching.{is_deep}
 use Rattle.pv_table.specs.Repeatable.{sets_of, has_masked_mode}
-use Rattle.pv_metadata.proofs.Repeating.{same_kind-refl}
+use Rattle.pv_walk.proofs.Repeating.{same_kind-refl}
 
 -- ---- the table of what lines ask for, in six cases
 

@@ -7,19 +7,19 @@ use Rattle.std.proofs.lemmas.List.Folds.{list_any-append, list_all-append}
 use Rattle.std.proofs.lemmas.Bool.{false_from_ne_true, or_left, and_parts}
 use Rattle.pv_path.specs.Paths.{has_names, Path, is_prefix}
 use Rattle.pv_path.proofs.PathLaws.{same_path-refl}
-use Rattle.pv_metadata.specs.declared.object_state.ObjectState.{ObjectState}
-use Rattle.pv_metadata.specs.declared.object_state.Body.{Body}
-use Rattle.pv_metadata.specs.declared.operation.Change.{Change}
-use Rattle.pv_metadata.specs.declared.operation.Change.TheVariants.{Owner, Mode}
-use Rattle.pv_metadata.specs.declared.operation.Guard.TheVariants.{Every, NoLink}
-use Rattle.pv_metadata.specs.declared.operation.Operation.{Operation}
-use Rattle.pv_metadata.specs.declared.operation.Operation.TheVariants.{Apply}
-use Rattle.pv_metadata.specs.Dividing.{parts_of, parts}
-use Rattle.pv_metadata.specs.Nodes.{same_kind}
-use Rattle.pv_metadata.specs.Operations.{run}
-use Rattle.pv_metadata.specs.Reasons as reasons
-use Rattle.pv_metadata.specs.Reasons.{is_adjusting, is_append, is_masked, gives_base, has_append, has_mixed_mask}
-use Rattle.pv_metadata.proofs.Dividing.{repeatable-parts}
+use Rattle.pv_walk.specs.declared.object_state.ObjectState.{ObjectState}
+use Rattle.pv_walk.specs.declared.object_state.Body.{Body}
+use Rattle.pv_walk.specs.declared.operation.Change.{Change}
+use Rattle.pv_walk.specs.declared.operation.Change.TheVariants.{Owner, Mode}
+use Rattle.pv_walk.specs.declared.operation.Guard.TheVariants.{Every, NoLink}
+use Rattle.pv_walk.specs.declared.operation.Operation.{Operation}
+use Rattle.pv_walk.specs.declared.operation.Operation.TheVariants.{Apply}
+use Rattle.pv_walk.specs.Dividing.{parts_of, parts}
+use Rattle.pv_walk.specs.Nodes.{same_kind}
+use Rattle.pv_walk.specs.Operations.{run}
+use Rattle.pv_walk.specs.Reasons as reasons
+use Rattle.pv_walk.specs.Reasons.{is_adjusting, is_append, is_masked, gives_base, has_append, has_mixed_mask}
+use Rattle.pv_walk.proofs.Dividing.{repeatable-parts}
 use Rattle.pv_lines.specs.declared.line.Line.{Line}
 use Rattle.pv_lines.specs.declared.line.LineMode.{LineMode}
 use Rattle.pv_lines.specs.declared.line.LinePath.{LinePath}
@@ -44,7 +44,7 @@ use Rattle.pv_laws.proofs.Sets as sets
 use Rattle.pv_laws.proofs.Splits.{IsKnown, line_of}
 use Rattle.pv_laws.proofs.Tops.{copied_by, top_again}
 use Rattle.pv_path.proofs.Tests.{true_not_false}
-use Rattle.pv_metadata.proofs.Repeating.{same_kind-refl}
+use Rattle.pv_walk.proofs.Repeating.{same_kind-refl}
 
 -- ---- what a line that copies sets
 

@@ -13,15 +13,15 @@ use Rattle.pv_steps.specs.declared.object.Object.{Object}
 use Rattle.pv_steps.specs.Objects.{is_directory, NumbersFit}
 use Rattle.pv_steps.specs.Trees.{Places, kind_of, IsTreeIn}
 use Rattle.pv_steps.proofs.TreeLaws.{directory_above}
-use Rattle.pv_metadata.specs.declared.object_state.ObjectState.{ObjectState}
-use Rattle.pv_metadata.specs.declared.operation.Change.{Change}
-use Rattle.pv_metadata.specs.declared.operation.Guard.{Guard}
-use Rattle.pv_metadata.specs.declared.operation.Operation.{Operation}
-use Rattle.pv_metadata.specs.declared.operation.Operation.TheVariants.{Make, Renew, Erase, Apply}
-use Rattle.pv_metadata.specs.Nodes.{object_state_of, object_states_of}
-use Rattle.pv_metadata.specs.Operations.{admits, changed, done, run}
-use Rattle.pv_metadata.proofs.EditLaws.{path_cases}
-use Rattle.pv_metadata.proofs.NodeChanges.{keeps-changed}
+use Rattle.pv_walk.specs.declared.object_state.ObjectState.{ObjectState}
+use Rattle.pv_walk.specs.declared.operation.Change.{Change}
+use Rattle.pv_walk.specs.declared.operation.Guard.{Guard}
+use Rattle.pv_walk.specs.declared.operation.Operation.{Operation}
+use Rattle.pv_walk.specs.declared.operation.Operation.TheVariants.{Make, Renew, Erase, Apply}
+use Rattle.pv_walk.specs.Nodes.{object_state_of, object_states_of}
+use Rattle.pv_walk.specs.Operations.{admits, changed, done, run}
+use Rattle.pv_walk.proofs.EditLaws.{path_cases}
+use Rattle.pv_walk.proofs.NodeChanges.{keeps-changed}
 use Rattle.pv_walk.specs.Staging.{new_object, new_kind}
 use Rattle.pv_table.specs.declared.action.Making.{Making}
 use Rattle.pv_table.specs.Asked.{first_of, clears_below, made_at}

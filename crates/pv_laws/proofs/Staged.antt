@@ -8,9 +8,9 @@ use Rattle.std.specs.List.{list_all, AllByRecursion}
 use Rattle.pv_path.specs.Paths.{Path, is_prefix, rest_under, has_staging, staging_of}
 use Rattle.pv_path.proofs.PathLaws.{has_staging-extends, has_staging-staging_of, rest_under-Some, has_staging-append}
 use Rattle.pv_steps.specs.Trees.{Files, places, IsAbsentIn}
-use Rattle.pv_metadata.specs.declared.object_state.ObjectState.{ObjectState}
-use Rattle.pv_metadata.specs.Nodes.{object_state_of, object_states_of, same_kind}
-use Rattle.pv_metadata.specs.Operations.{run}
+use Rattle.pv_walk.specs.declared.object_state.ObjectState.{ObjectState}
+use Rattle.pv_walk.specs.Nodes.{object_state_of, object_states_of, same_kind}
+use Rattle.pv_walk.specs.Operations.{run}
 use Rattle.pv_lines.specs.declared.line.Line.{Line}
 use Rattle.pv_walk.specs.Staging.{prefixes, staging_names, new_kind}
 use Rattle.pv_table.specs.declared.action.Action.{Action}
@@ -19,7 +19,8 @@ use Rattle.pv_table.specs.declared.action.Making.{Making}
 use Rattle.pv_table.specs.declared.action.Adjustment.{Adjustment}
 use Rattle.pv_table.specs.Active.{in_create_order}
 use Rattle.pv_table.specs.ActionTable.{action_of}
-use Rattle.pv_table.specs.Created.{after_each, one_is_refused, by_turn, by_line, created}
+use Rattle.pv_table.specs.Created.{by_turn, by_line, created}
+use Rattle.pv_steps.specs.Doing.{after_each, one_is_refused}
 use Rattle.pv_table.specs.Effects.{carried_out, is_adjusted, prepare, turn_after, turned, turns}
 use Rattle.pv_table.specs.Pointwise.{after_turn}
 use Rattle.pv_table.specs.Reaching.{names, path_in}

@@ -13,17 +13,17 @@ use Rattle.pv_path.proofs.PathLaws.{has_names-prefix, is_prefix-refl, is_prefix-
 use Rattle.pv_path.proofs.Tests.{true_not_false}
 use Rattle.pv_steps.specs.Objects.{is_directory}
 use Rattle.pv_steps.specs.Trees.{Files, places, IsTree}
-use Rattle.pv_metadata.specs.declared.object_state.ObjectState.{ObjectState}
-use Rattle.pv_metadata.specs.declared.operation.Operation.{Operation}
-use Rattle.pv_metadata.specs.declared.operation.Operation.TheVariants.{Make, Renew, Erase, Apply}
-use Rattle.pv_metadata.specs.declared.operation.Test.{Test}
-use Rattle.pv_metadata.specs.Dividing.{parts}
-use Rattle.pv_metadata.specs.Nodes.{object_state_of, object_states_of}
-use Rattle.pv_metadata.specs.Operations.{done, run}
-use Rattle.pv_metadata.specs.Reasons as reasons
-use Rattle.pv_metadata.specs.Reasons.{is_erasure}
-use Rattle.pv_metadata.proofs.Dividing.{run-parts}
-use Rattle.pv_metadata.proofs.OperationLaws.{absorbed, from_the_gap, run-append, repeatable-front}
+use Rattle.pv_walk.specs.declared.object_state.ObjectState.{ObjectState}
+use Rattle.pv_walk.specs.declared.operation.Operation.{Operation}
+use Rattle.pv_walk.specs.declared.operation.Operation.TheVariants.{Make, Renew, Erase, Apply}
+use Rattle.pv_walk.specs.declared.operation.Test.{Test}
+use Rattle.pv_walk.specs.Dividing.{parts}
+use Rattle.pv_walk.specs.Nodes.{object_state_of, object_states_of}
+use Rattle.pv_walk.specs.Operations.{done, run}
+use Rattle.pv_walk.specs.Reasons as reasons
+use Rattle.pv_walk.specs.Reasons.{is_erasure}
+use Rattle.pv_walk.proofs.Dividing.{run-parts}
+use Rattle.pv_walk.proofs.OperationLaws.{absorbed, from_the_gap, run-append, repeatable-front}
 use Rattle.pv_lines.specs.declared.line.Line.{Line}
 use Rattle.pv_lines.specs.declared.line.LinePath.{LinePath}
 use Rattle.pv_lines.specs.Lines.{IsLine}
@@ -35,7 +35,8 @@ use Rattle.pv_table.specs.declared.reason.Reason.TheVariants as reason
 use Rattle.pv_table.specs.Active.{are_distinct, Listed, is_adjusting_line, ordered, in_create_order}
 use Rattle.pv_table.specs.Asked.{first_of, clears_below, operations, operations_of}
 use Rattle.pv_table.specs.ActionTable.{action_of}
-use Rattle.pv_table.specs.Created.{after_each, one_is_refused, by_turn, by_line, IsQuiet}
+use Rattle.pv_table.specs.Created.{by_turn, by_line, IsQuiet}
+use Rattle.pv_steps.specs.Doing.{after_each, one_is_refused}
 use Rattle.pv_table.specs.Pointwise.{ObjectStates, parent_object_state, pointwise_after}
 use Rattle.pv_table.specs.Reaching.{path_in, is_creating, governs}
 use Rattle.pv_table.specs.Repeatable.{IsRepeatable, HasReason, below, sets_of}

@@ -9,12 +9,12 @@ use Rattle.pv_path.proofs.PathLaws.{is_prefix-refl, rest_under-None, rest_under-
 use Rattle.pv_path.proofs.Tests.{true_not_false}
 use Rattle.pv_steps.specs.Trees.{Files, Places, places, tabulate}
 use Rattle.pv_steps.proofs.StepLaws.{places-tabulate}
-use Rattle.pv_metadata.specs.declared.object_state.ObjectState.{ObjectState}
-use Rattle.pv_metadata.specs.Dividing.{parts}
-use Rattle.pv_metadata.specs.Nodes.{object_state_of, object_states_of}
-use Rattle.pv_metadata.specs.Operations.{run}
-use Rattle.pv_metadata.proofs.Dividing.{run-parts}
-use Rattle.pv_metadata.proofs.OperationLaws.{run-append}
+use Rattle.pv_walk.specs.declared.object_state.ObjectState.{ObjectState}
+use Rattle.pv_walk.specs.Dividing.{parts}
+use Rattle.pv_walk.specs.Nodes.{object_state_of, object_states_of}
+use Rattle.pv_walk.specs.Operations.{run}
+use Rattle.pv_walk.proofs.Dividing.{run-parts}
+use Rattle.pv_walk.proofs.OperationLaws.{run-append}
 use Rattle.pv_lines.specs.declared.line.Line.{Line}
 use Rattle.pv_walk.specs.Copying.{object_of}
 use Rattle.pv_table.specs.declared.action.Copying.{Copying}

@@ -11,13 +11,13 @@ use Rattle.pv_path.proofs.PathLaws.{prefix_parts, has_staging-append, is_prefix-
 use Rattle.pv_path.proofs.Tests.{true_not_false}
 use Rattle.pv_steps.specs.Same.{Same}
 use Rattle.pv_steps.specs.Trees.{Files, places, IsTree}
-use Rattle.pv_metadata.specs.declared.object_state.ObjectState.{ObjectState}
-use Rattle.pv_metadata.specs.declared.operation.Operation.{Operation}
-use Rattle.pv_metadata.specs.Dividing.{parts}
-use Rattle.pv_metadata.specs.Nodes.{object_states_of}
-use Rattle.pv_metadata.specs.Operations.{run}
-use Rattle.pv_metadata.proofs.Dividing.{run-parts}
-use Rattle.pv_metadata.proofs.OperationLaws.{object_states-same, run-append}
+use Rattle.pv_walk.specs.declared.object_state.ObjectState.{ObjectState}
+use Rattle.pv_walk.specs.declared.operation.Operation.{Operation}
+use Rattle.pv_walk.specs.Dividing.{parts}
+use Rattle.pv_walk.specs.Nodes.{object_states_of}
+use Rattle.pv_walk.specs.Operations.{run}
+use Rattle.pv_walk.proofs.Dividing.{run-parts}
+use Rattle.pv_walk.proofs.OperationLaws.{object_states-same, run-append}
 use Rattle.pv_lines.specs.declared.line.Line.{Line}
 use Rattle.pv_lines.specs.Lines.{IsLine}
 use Rattle.pv_table.specs.declared.action.Copying.{Copying}
@@ -26,7 +26,8 @@ use Rattle.pv_table.specs.declared.action.Action.TheVariants.{Create, Copy, Adju
 use Rattle.pv_table.specs.Active.{are_distinct, Listed, ordered, in_create_order}
 use Rattle.pv_table.specs.Asked.{operations, operations_of}
 use Rattle.pv_table.specs.ActionTable.{action_of}
-use Rattle.pv_table.specs.Created.{after_each, one_is_refused, by_line, created, IsQuiet}
+use Rattle.pv_table.specs.Created.{by_line, created, IsQuiet}
+use Rattle.pv_steps.specs.Doing.{after_each, one_is_refused}
 use Rattle.pv_table.specs.Pointwise.{ObjectStates, after_turn, pointwise_after, state, tabulated}
 use Rattle.pv_table.specs.Reaching.{path_in, governs}
 use Rattle.pv_table.specs.Repeatable.{IsRepeatable}

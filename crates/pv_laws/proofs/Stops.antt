@@ -11,16 +11,16 @@ use Rattle.pv_path.specs.Paths.{has_names, Path, is_prefix, has_staging, same_pa
 use Rattle.pv_path.proofs.PathLaws.{is_prefix-refl}
 use Rattle.pv_steps.specs.Trees.{Files, places, IsTree}
 use Rattle.pv_steps.specs.Same.{Same}
-use Rattle.pv_metadata.specs.declared.object_state.ObjectState.{ObjectState}
-use Rattle.pv_metadata.specs.declared.operation.Operation.{Operation}
-use Rattle.pv_metadata.specs.declared.operation.Operation.TheVariants.{Renew}
-use Rattle.pv_metadata.specs.Dividing.{parts}
-use Rattle.pv_metadata.specs.Nodes.{object_state_of, object_states_of}
-use Rattle.pv_metadata.specs.Operations.{run}
-use Rattle.pv_metadata.specs.Reasons as reasons
-use Rattle.pv_metadata.specs.Reasons.{is_erasure}
-use Rattle.pv_metadata.proofs.Dividing.{run-parts}
-use Rattle.pv_metadata.proofs.OperationLaws.{absorbed, object_states_of-same, object_states-same, erased-alike, from_the_gap, run-append}
+use Rattle.pv_walk.specs.declared.object_state.ObjectState.{ObjectState}
+use Rattle.pv_walk.specs.declared.operation.Operation.{Operation}
+use Rattle.pv_walk.specs.declared.operation.Operation.TheVariants.{Renew}
+use Rattle.pv_walk.specs.Dividing.{parts}
+use Rattle.pv_walk.specs.Nodes.{object_state_of, object_states_of}
+use Rattle.pv_walk.specs.Operations.{run}
+use Rattle.pv_walk.specs.Reasons as reasons
+use Rattle.pv_walk.specs.Reasons.{is_erasure}
+use Rattle.pv_walk.proofs.Dividing.{run-parts}
+use Rattle.pv_walk.proofs.OperationLaws.{absorbed, object_states_of-same, object_states-same, erased-alike, from_the_gap, run-append}
 use Rattle.pv_lines.specs.declared.line.Line.{Line}
 use Rattle.pv_lines.specs.Lines.{IsLine}
 use Rattle.pv_walk.specs.Staging.{new_object}
@@ -29,7 +29,8 @@ use Rattle.pv_table.specs.declared.action.Making.{Making}
 use Rattle.pv_table.specs.Active.{are_distinct, Listed, placed, is_adjusting_line, in_create_order}
 use Rattle.pv_table.specs.Asked.{first_of, operations, operations_of}
 use Rattle.pv_table.specs.ActionTable.{action_of}
-use Rattle.pv_table.specs.Created.{by_line, one_is_refused, created, IsQuiet}
+use Rattle.pv_table.specs.Created.{by_line, created, IsQuiet}
+use Rattle.pv_steps.specs.Doing.{one_is_refused}
 use Rattle.pv_table.specs.Reaching.{path_in, is_creating}
 use Rattle.pv_table.specs.Repeatable.{IsRepeatable}
 use Rattle.pv_table.specs.Turns.{copied}

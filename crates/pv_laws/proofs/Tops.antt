@@ -6,14 +6,14 @@ use Rattle.pv_acl.specs.Parts as parts
 use Rattle.pv_acl.specs.Parts.{special_of}
 use Rattle.pv_steps.specs.declared.node.Kind.{Kind}
 use Rattle.pv_steps.specs.declared.node.Kind.TheVariants.{Directory, File, Link, Fifo, CharDevice, BlockDevice}
-use Rattle.pv_metadata.specs.declared.object_state.ObjectState.{ObjectState}
-use Rattle.pv_metadata.specs.declared.operation.Change.TheVariants.{Owner}
-use Rattle.pv_metadata.specs.declared.operation.Guard.TheVariants.{Every}
-use Rattle.pv_metadata.specs.declared.operation.Operation.{Operation}
-use Rattle.pv_metadata.specs.declared.operation.Operation.TheVariants.{Apply}
-use Rattle.pv_metadata.specs.Masks.{with_masked}
-use Rattle.pv_metadata.specs.Operations.{run}
-use Rattle.pv_metadata.proofs.Absorbing.{with_masked-own}
+use Rattle.pv_walk.specs.declared.object_state.ObjectState.{ObjectState}
+use Rattle.pv_walk.specs.declared.operation.Change.TheVariants.{Owner}
+use Rattle.pv_walk.specs.declared.operation.Guard.TheVariants.{Every}
+use Rattle.pv_walk.specs.declared.operation.Operation.{Operation}
+use Rattle.pv_walk.specs.declared.operation.Operation.TheVariants.{Apply}
+use Rattle.pv_walk.specs.Masks.{with_masked}
+use Rattle.pv_walk.specs.Operations.{run}
+use Rattle.pv_walk.proofs.Absorbing.{with_masked-own}
 use Rattle.pv_lines.specs.declared.line.Line.{Line}
 use Rattle.pv_lines.specs.declared.line.LineId.{LineId}
 use Rattle.pv_lines.specs.declared.line.LineMode.{LineMode}

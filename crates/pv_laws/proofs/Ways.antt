@@ -10,19 +10,19 @@ use Rattle.std.proofs.lemmas.Option.{same_Some}
 use Rattle.pv_path.specs.Paths.{Path, is_prefix}
 use Rattle.pv_path.proofs.PathLaws.{is_prefix-refl}
 use Rattle.pv_acl.specs.declared.line.How.TheVariants.{Replace, Add}
-use Rattle.pv_metadata.specs.declared.object_state.ObjectState.{ObjectState}
-use Rattle.pv_metadata.specs.declared.operation.Change.{Change}
-use Rattle.pv_metadata.specs.declared.operation.Change.TheVariants.{Write, Append, Owner, Mode, Entries, Attrs, Letters}
-use Rattle.pv_metadata.specs.declared.operation.Guard.{Guard}
-use Rattle.pv_metadata.specs.declared.operation.Guard.TheVariants.{Every, NoLink, Only}
-use Rattle.pv_metadata.specs.declared.operation.Operation.{Operation}
-use Rattle.pv_metadata.specs.declared.operation.Operation.TheVariants.{Make, Renew, Erase, Apply}
-use Rattle.pv_metadata.specs.declared.operation.Test.{Test}
-use Rattle.pv_metadata.specs.Dividing.{base_line, parts_of, parts}
-use Rattle.pv_metadata.specs.Nodes.{object_state_of, is_file, is_link, same_kind, carries_letters}
-use Rattle.pv_metadata.specs.Operations.{admits, changed, stays, done, run}
-use Rattle.pv_metadata.specs.Reasons.{is_adjusting, is_base, is_make}
-use Rattle.pv_metadata.proofs.Dividing.{run-parts}
+use Rattle.pv_walk.specs.declared.object_state.ObjectState.{ObjectState}
+use Rattle.pv_walk.specs.declared.operation.Change.{Change}
+use Rattle.pv_walk.specs.declared.operation.Change.TheVariants.{Write, Append, Owner, Mode, Entries, Attrs, Letters}
+use Rattle.pv_walk.specs.declared.operation.Guard.{Guard}
+use Rattle.pv_walk.specs.declared.operation.Guard.TheVariants.{Every, NoLink, Only}
+use Rattle.pv_walk.specs.declared.operation.Operation.{Operation}
+use Rattle.pv_walk.specs.declared.operation.Operation.TheVariants.{Make, Renew, Erase, Apply}
+use Rattle.pv_walk.specs.declared.operation.Test.{Test}
+use Rattle.pv_walk.specs.Dividing.{base_line, parts_of, parts}
+use Rattle.pv_walk.specs.Nodes.{object_state_of, is_file, is_link, same_kind, carries_letters}
+use Rattle.pv_walk.specs.Operations.{admits, changed, stays, done, run}
+use Rattle.pv_walk.specs.Reasons.{is_adjusting, is_base, is_make}
+use Rattle.pv_walk.proofs.Dividing.{run-parts}
 use Rattle.pv_lines.specs.declared.line.Argument.{Argument}
 use Rattle.pv_lines.specs.declared.line.Argument.TheVariants as argument
 use Rattle.pv_lines.specs.declared.line.Line.{Line}

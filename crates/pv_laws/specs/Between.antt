@@ -4,8 +4,8 @@ use Rattle.std.specs.Prelude.{◌≡◌, ◌⊎◌, ℕ, suc, true, false, List,
 use Rattle.std.specs.FinMap as fin
 use Rattle.pv_path.specs.Paths.{Path, is_prefix, has_staging}
 use Rattle.pv_steps.specs.Trees.{Files, places}
-use Rattle.pv_metadata.specs.declared.object_state.ObjectState.{ObjectState}
-use Rattle.pv_metadata.specs.Nodes.{object_states_of}
+use Rattle.pv_walk.specs.declared.object_state.ObjectState.{ObjectState}
+use Rattle.pv_walk.specs.Nodes.{object_states_of}
 use Rattle.pv_lines.specs.declared.line.Line.{Line}
 use Rattle.pv_table.specs.Active.{in_create_order}
 use Rattle.pv_table.specs.ActionTable.{action_of}

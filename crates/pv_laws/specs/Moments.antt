@@ -3,7 +3,7 @@ use Rattle.std.specs.Prelude.{◌≡◌, false}
 use Rattle.pv_path.specs.Paths.{Path, has_staging}
 use Rattle.pv_steps.specs.Trees.{Files, places}
 use Rattle.std.specs.FinMap as fin
-use Rattle.pv_metadata.specs.Nodes.{object_states_of}
+use Rattle.pv_walk.specs.Nodes.{object_states_of}
 use Rattle.pv_table.specs.Pointwise.{ObjectStates}
 
 -- the same stands at each path, staging names included, stamps aside

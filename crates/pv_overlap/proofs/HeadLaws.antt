@@ -8,10 +8,10 @@ use Rattle.pv_path.specs.Paths.{Path, has_names, is_prefix}
 use Rattle.pv_path.proofs.PathLaws.{is_prefix-refl, is_prefix-trans, prefixes_compare, same_bytes-refl}
 use Rattle.pv_glob.specs.declared.element.Element.{Element}
 use Rattle.pv_glob.specs.Matching.{component_matches}
-use Rattle.pv_meet.specs.Meeting.{are_met, in_reach, reached as reaches}
-use Rattle.pv_meet.proofs.Reaches.{reached}
-use Rattle.pv_meet.specs.Written.{written}
-use Rattle.pv_meet.proofs.OneName.{written_alone}
+use Rattle.pv_glob.specs.Meeting.{are_met, in_reach, reached as reaches}
+use Rattle.pv_glob.proofs.Reaches.{reached}
+use Rattle.pv_glob.specs.Written.{written}
+use Rattle.pv_glob.proofs.OneName.{written_alone}
 use Rattle.pv_overlap.specs.Heads.{common, common_with, head_of, head_of_all, related}
 
 abbrev Never : Type 0

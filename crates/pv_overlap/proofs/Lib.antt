@@ -4,3 +4,14 @@ pub mod Pairs
 pub mod Related
 pub mod Sorted
 pub mod Walking
+pub mod ReachLaws
+pub mod CopyLaws
+pub mod FirstLaws
+pub mod Members
+pub mod MarkLaws
+pub mod MarkOrder
+pub mod OrderLaws
+pub mod AnswerLaws
+pub mod AlikeLaws
+pub mod LoopLaws
+pub mod ReportLaws

@@ -5,7 +5,7 @@ use Rattle.std.specs.Option.{option_map_or}
 use Rattle.pv_path.specs.Names.{is_name, same_bytes}
 use Rattle.pv_path.specs.Paths.{Path, is_prefix}
 use Rattle.pv_glob.specs.declared.element.Element.{Element}
-use Rattle.pv_meet.specs.Written.{written}
+use Rattle.pv_glob.specs.Written.{written}
 
 -- the path of the leading components of written bytes, ended before the first that is no name
 abbrev pub head_of : List (List Element) → Path

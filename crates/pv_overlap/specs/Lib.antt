@@ -2,3 +2,8 @@ pub mod Answers
 pub mod Heads
 pub mod Questions
 pub mod Walk
+pub mod Subjects
+pub mod Alike
+pub mod Marks
+pub mod Reporting
+pub mod GivenMessages

@@ -3,8 +3,7 @@ ghost use Rattle.std.specs.Prelude.{◌≡◌, ℕ, List, [], ◌∷◌, ◌++�
 ghost use Rattle.pv_path.specs.Names.{is_name};
 ghost use Rattle.pv_overlap.specs.Heads.{common, common_with, head_of, head_of_all};
 
-use pv_glob::{Component, Pattern, Plain};
-use pv_meet::written;
+use pv_glob::{Component, Pattern, Plain, written};
 use pv_path::{Name, TreePath, is_name};
 use std::alloc::{AllocError, Global};
 

@@ -2,7 +2,7 @@
 ghost use Rattle.std.specs.Prelude.{◌≡◌, Bool, List, true};
 ghost use Rattle.pv_path.specs.Paths.{Path};
 ghost use Rattle.pv_glob.specs.declared.element.Element.{Element};
-ghost use Rattle.pv_meet.specs.Meeting.{are_met};
+ghost use Rattle.pv_glob.specs.Meeting.{are_met};
 ghost use Rattle.pv_overlap.specs.Heads.{head_of_all, related};
 
 /// Patterns that share a path, also below the paths that they match, have heads one of which is a prefix of the other.

@@ -22,19 +22,19 @@ use Rattle.pv_steps.specs.Same.{object_states}
 use Rattle.pv_steps.specs.Trees.{Files, places, kind_of, IsTree}
 use Rattle.pv_steps.proofs.ObjectLaws.{IsObject-modified}
 use Rattle.pv_steps.proofs.TreeLaws.{present_above, directory_above}
-use Rattle.pv_find.specs.Whole.{goes_whole}
-use Rattle.pv_find.proofs.WholeLaws.{goes_parts, goes_from, all_at-each, each-all_at}
+use Rattle.pv_walk.specs.Whole.{goes_whole, all_at}
+use Rattle.pv_walk.proofs.WholeLaws.{goes_parts, goes_from, all_at-each, each-all_at}
 use Rattle.pv_walk.specs.Removal.{loses_child}
 use Rattle.pv_table.specs.declared.taking.Taking.{Taking}
 use Rattle.pv_table.specs.declared.taking.Taking.TheVariants as taking
 use Rattle.pv_table.specs.ActionTable.{taking_of}
 use Rattle.pv_table.specs.Reaching.{names, names_in, path_in}
-use Rattle.pv_table.specs.Removed.{all_at, covers, files_without, is_directory_at, is_gone, is_named, is_unfinished, judged, keeps, refused_place, removed}
+use Rattle.pv_table.specs.Removed.{covers, files_without, is_directory_at, is_gone, is_named, is_unfinished, judged, keeps, refused_place, removed}
 use Rattle.pv_table.proofs.QuietLaws.{kind_object_state, present_object_state}
-use Rattle.pv_remove.proofs.CoverLaws.{at_place, from_range, in_any, in_range, key_there, take_rest_of}
+use Rattle.pv_remove.proofs.CoverLaws.{at_place, from_range, in_any, key_there, take_rest_of}
+use Rattle.pv_table.proofs.GoingLaws.{in_range, places-without, goes_below}
 use Rattle.pv_remove.proofs.InputLaws.{emptying_makes}
-use Rattle.pv_remove.proofs.RunLaws.{goes_below}
-use Rattle.pv_remove.proofs.StopLaws.{object_states-without, places-without}
+use Rattle.pv_remove.proofs.StopLaws.{object_states-without}
 
 -- D names its own path alone
 own_path : (line : Line) → IsLine line → taking_of line ≡ taking.Contents → (p : Path) → names line p ≡ true → path_in line.path ≡ p

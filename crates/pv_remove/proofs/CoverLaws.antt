@@ -6,7 +6,7 @@ use Rattle.std.specs.FinMap as fin
 use Rattle.std.specs.Option.{option_map_or}
 use Rattle.std.proofs.lemmas.Bool.Decides.{nat_tests}
 use Rattle.std.proofs.lemmas.List.FromFn.{length-range_with_len, get_or-range_with_len}
-use Rattle.std.proofs.lemmas.List.Folds.{list_any_at, Any-from_list_any}
+use Rattle.std.proofs.lemmas.List.Folds.{Any-from_list_any}
 use Rattle.std.proofs.Math.Seq.{take-append_seam}
 use Rattle.std.proofs.Math.Bool.{and-false}
 use Rattle.std.proofs.lemmas.Bool.{and_parts, and_from}
@@ -25,7 +25,7 @@ use Rattle.pv_steps.specs.Trees.{Files, places, kind_of, IsTree}
 use Rattle.pv_steps.proofs.TreeLaws.{present_above, directory_above}
 use Rattle.pv_walk.specs.Removal.{is_below, is_one_of}
 use Rattle.pv_walk.proofs.RemovalLaws.{below_parts, is_below-append}
-use Rattle.pv_find.proofs.FindingLaws.{one_of-tied, any_more}
+use Rattle.pv_walk.proofs.FindingLaws.{one_of-tied, any_more}
 use Rattle.pv_table.specs.declared.taking.Taking.{Taking}
 use Rattle.pv_table.specs.declared.taking.Taking.TheVariants as taking
 use Rattle.pv_table.specs.ActionTable.{taking_of}
@@ -33,6 +33,7 @@ use Rattle.pv_table.specs.Reaching.{names, names_in}
 use Rattle.pv_table.specs.Removed.{covers, is_directory_at, is_named, refused_place}
 use Rattle.pv_remove.specs.Covering.{takes}
 use Rattle.pv_path.proofs.Tests.{same_tests}
+use Rattle.pv_table.proofs.GoingLaws.{in_range}
 
 -- ---- answers
 
@@ -93,12 +94,6 @@ in_any f g (x ∷ xs) p h a b = by (same_path x p) refl (in_any f g xs p) h
     by : (s : Bool) → same_path x p ≡ s → (is_one_of xs p ≡ true → f p ≡ true → g p ≡ true → list_any g (filter f xs) ≡ true) → (s || is_one_of xs p) ≡ true → list_any g (filter f (x ∷ xs)) ≡ true
     by true e rest h = here ((same_path-decides x p).0 e)
     by false e rest h = more (f x) (rest h a b)
-
-pub in_range : (f : ℕ → Bool) (n k : ℕ) → k < n → f k ≡ true → list_any f (range_with_len 0 n) ≡ true
-in_range f n k within h =
-    let len = length-range_with_len 0 n in
-    let there : get_or (range_with_len 0 n) k 0 ≡ k = omega (arith, get_or-range_with_len 0 n k 0 within) in
-    list_any_at f (range_with_len 0 n) k 0 (omega (arith, len, within)) (ap f there ∙ h)
 
 pub from_range : (f : ℕ → Bool) (n : ℕ) → list_any f (range_with_len 0 n) ≡ true → (k : ℕ) × (k < n) × (f k ≡ true)
 from_range f n h =

@@ -8,7 +8,7 @@ use Rattle.pv_lines.specs.Lines.{IsLine}
 use Rattle.pv_path.specs.Paths.{Path}
 use Rattle.pv_path.proofs.PathLaws.{is_prefix-refl}
 use Rattle.pv_steps.specs.Trees.{Files, places}
-use Rattle.pv_find.proofs.WholeLaws.{goes_parts, all_at-each}
+use Rattle.pv_walk.proofs.WholeLaws.{goes_parts, all_at-each}
 use Rattle.pv_table.specs.Reaching.{governs}
 use Rattle.pv_table.specs.Removed.{covers, is_gone, is_purged, purges}
 use Rattle.pv_remove.proofs.InputLaws.{covering_may, purging_may}

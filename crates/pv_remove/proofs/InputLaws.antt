@@ -1,12 +1,11 @@
 -- Taking away what lines name, or what lines with `$` name, leaves presence, kind and payload at each path from which lines
 -- are read, where none of the lines may change what is read there.
-use Rattle.std.specs.Prelude.{◌≡◌, ℕ, ◌+◌, ◌-◌, ◌==◌, ◌<◌, ◌≤◌, ◌⊎◌, Bool, true, false, not, ◌&&◌, ◌||◌, List, length, take, drop, Option, Some, None, is_none, is_some, option_map, if◌then◌else◌}
-use Rattle.std.proofs.Common.{refl, sym, ap, ◌∙◌, arith, inl, inr}
+use Rattle.std.specs.Prelude.{◌≡◌, ℕ, ◌+◌, ◌-◌, ◌==◌, Bool, true, false, not, ◌&&◌, ◌||◌, List, length, take, drop, Some, is_none, is_some, if◌then◌else◌}
+use Rattle.std.proofs.Common.{refl, sym, ap, ◌∙◌, arith}
 use Rattle.std.proofs.Math.Seq.{take-append_seam}
-use Rattle.std.proofs.lemmas.Bool.{eqb-true, or_right, and_parts, and_from}
-use Rattle.std.proofs.lemmas.List.{length-append, take_all}
-use Rattle.std.proofs.lemmas.List.Folds.{Any-from_list_any}
-use Rattle.std.proofs.lemmas.Option.{get_or_from_slice_get, slice_get-get_or, slice_get_within}
+use Rattle.std.proofs.lemmas.Bool.{eqb-true, or_right, and_parts}
+use Rattle.std.proofs.lemmas.List.{length-append}
+use Rattle.std.proofs.lemmas.Option.{get_or_from_slice_get, slice_get_within}
 use Rattle.std.specs.List.{AllByRecursion, list_any, range_with_len}
 use Rattle.std.specs.Option.{option_map_or}
 use Rattle.pv_lines.specs.declared.line.Line.{Line}
@@ -16,79 +15,23 @@ use Rattle.pv_lines.specs.Lines.{IsLine, IsLinePath}
 use Rattle.pv_lines.specs.Types.{type_of}
 use Rattle.pv_path.specs.Paths.{has_names, Path, is_prefix}
 use Rattle.pv_path.proofs.PathLaws.{is_prefix-refl, prefix_parts, same_path-refl}
-use Rattle.pv_steps.specs.declared.object.Object.{Object, Object}
 use Rattle.pv_steps.specs.declared.step.Step.{Step}
 use Rattle.pv_steps.specs.Content.{content_of}
-use Rattle.pv_steps.specs.Objects.{object_state}
 use Rattle.pv_steps.specs.Runs.{after_all, Ran}
 use Rattle.pv_steps.specs.Trees.{IsTree, Files, Places, places}
-use Rattle.pv_metadata.specs.Edits.{Pruned}
-use Rattle.pv_walk.proofs.RemovalLaws.{zero_or_more}
-use Rattle.pv_find.proofs.WholeLaws.{goes_parts, all_at-each}
+use Rattle.pv_walk.specs.Edits.{Pruned}
+use Rattle.pv_walk.proofs.WholeLaws.{goes_parts, all_at-each}
 use Rattle.pv_table.specs.declared.reason.Reason.TheVariants as reason
 use Rattle.pv_table.specs.declared.taking.Taking.{Taking}
 use Rattle.pv_table.specs.declared.taking.Taking.TheVariants as taking
 use Rattle.pv_table.specs.ActionTable.{action_of, is_writing, sparing_of, taking_of}
-use Rattle.pv_table.specs.Reaching.{governs, is_creating, is_deep, names, names_above, names_in, path_in, reaches_below, spares_below, takes_below}
+use Rattle.pv_table.specs.Reaching.{governs, is_creating, is_deep, names, names_in, path_in, reaches_below, spares_below, takes_below}
 use Rattle.pv_table.specs.Removed.{covers, is_directory_at, is_gone, is_named, is_purged, purges, refused_place}
 use Rattle.pv_table.specs.Repeatable.{HasReason, IsAt, changes_content, takes_named}
 use Rattle.pv_layers.specs.Places.{is_input}
-use Rattle.pv_remove.proofs.CoverLaws.{at_place, from_range, in_range}
-use Rattle.pv_remove.proofs.StopLaws.{told_prefix}
+use Rattle.pv_remove.proofs.CoverLaws.{at_place, from_range}
 use Rattle.pv_path.proofs.Tests.{true_not_false}
-
--- ---- what does not go is read as before
-
-content-object_state : (o : Option Object) → content_of o ≡ content_of (option_map object_state o)
-content-object_state None = refl
-content-object_state (Some o) = refl
-
--- what is the same but for stamps is read alike
-pub same_content : (x y : Option Object) → option_map object_state x ≡ option_map object_state y → content_of x ≡ content_of y
-same_content x y e = content-object_state x ∙ ap content_of e ∙ sym (content-object_state y)
-
-module _ (goes : Path → Bool) (t : Files) where
-  pub kept_content : (u : Files) (q : Path) → Pruned goes t u → goes q ≡ false → content_of (places u q) ≡ content_of (places t q)
-  kept_content u q pruned stays = same_content (places u q) (places t q) (pruned.outside q stays)
-
-  -- so after each number of the steps of a run
-  pub kept_on_run : (Q : Step → Type 0) (now : ℕ) (h : List Step) (u : Files) (k : List Step) → Ran (Pruned goes t) Q now t h u k
-      → (n : ℕ) (q : Path) → goes q ≡ false → content_of (places (after_all t (take n (drop (length h) k)) now) q) ≡ content_of (places t q)
-  kept_on_run Q now h u k run n q = kept_content (after_all t (take n (drop (length h) k)) now) q (told_prefix (Pruned goes t) Q now t h u k run n)
-
--- ---- lines that may change what is read
-
--- a line may change what is read from a path
-pub record MayChange (line : Line) (q : Path) : Type 0 where
-  pub changes : changes_content line ≡ true
-  pub governs : governs line q ≡ true
-
--- where no line may, none passes a test that only such lines pass
-module _ (lines : List Line) (free : (i : ℕ) → HasReason lines i reason.Input → ⊥) (q : Path) (input : is_input q ≡ true) (named : has_names q ≡ true) where
-  pub none_passes : (test : Line → Bool) → ((line : Line) (i : ℕ) → IsAt lines i line → test line ≡ true → MayChange line q) → list_any test lines ≡ false
-  none_passes test may = by (list_any test lines) refl
-    where
-      by : (b : Bool) → list_any test lines ≡ b → b ≡ false
-      by true h =
-          let found = Any-from_list_any test lines h in
-          let at : IsAt lines found.0 found.1 = slice_get-get_or lines found.0 found.1 found.2 ∙ ap Some found.3 in
-          let line_may = may found.1 found.0 at found.4 in
-          absurd (free found.0 (HasReason.input found.1 q at line_may.changes input named line_may.governs))
-      by false h = refl
-
--- a line governs what it names, and what it reaches below that
-module _ (line : Line) (q : Path) where
-  named_governs : names line q ≡ true → governs line q ≡ true
-  named_governs h = ap (λ b. (b || (reaches_below line && names_above line q)) || (is_creating line && is_prefix q (path_in line.path))) h
-
-  pub governs_below : (k : ℕ) → k < length q + 1 → names line (take k q) ≡ true → reaches_below line ≡ true → governs line q ≡ true
-  governs_below k within named deep = by (zero_or_more (length q - k))
-    where
-      by : (length q - k ≡ 0) ⊎ (1 ≤ length q - k) → governs line q ≡ true
-      by (inl z) = named_governs (ap (names line) (sym (take_all k q (omega (arith, z)))) ∙ named)
-      by (inr m) = ap (λ b. b || (is_creating line && is_prefix q (path_in line.path)))
-          (or_right (names line q) (reaches_below line && names_above line q)
-          (and_from (reaches_below line) (names_above line q) deep (in_range (λ j. names line (take j q)) (length q) k (omega (arith, m)) named)))
+use Rattle.pv_table.proofs.GoingInput.{MayChange, governs_below, kept_content, kept_on_run, named_governs, none_passes}
 
 -- ---- what is covered
 

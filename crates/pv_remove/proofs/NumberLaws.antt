@@ -18,9 +18,9 @@ use Rattle.pv_steps.proofs.TreeLaws.{present_of_kind}
 use Rattle.pv_walk.specs.Listing.{times}
 use Rattle.pv_walk.specs.Removal.{loses_child}
 use Rattle.pv_walk.proofs.CountLaws.{length-times, same_or_not, times-filter, times-keys}
-use Rattle.pv_find.specs.Whole.{count_of}
+use Rattle.pv_walk.specs.Whole.{count_of}
 use Rattle.pv_table.specs.Removed.{files_without}
-use Rattle.pv_remove.proofs.StopLaws.{places-without}
+use Rattle.pv_table.proofs.GoingLaws.{places-without}
 
 module _ (goes : Path → Bool) where
   -- how often a path stands among those of a tree that go

@@ -1,8 +1,6 @@
 -- Laws of a phase that takes away as a whole.
-use Rattle.std.specs.Prelude.{◌≡◌, ℕ, ◌^◌, ◌<◌, Bool, true, false, not, ◌&&◌, ◌||◌, ◌==◌, List, [], ◌∷◌, length, drop, Option, Some, None, is_none, is_some}
-use Rattle.std.proofs.Common.{refl, sym, ap, ◌∙◌, suc}
-use Rattle.std.proofs.lemmas.Bool.Decides.{nat_tests}
-use Rattle.std.proofs.Common.{arith}
+use Rattle.std.specs.Prelude.{◌≡◌, ℕ, ◌^◌, ◌<◌, Bool, true, false, not, ◌&&◌, ◌==◌, List, length, drop, Option, Some, None, is_none, is_some}
+use Rattle.std.proofs.Common.{refl, sym, ap, ◌∙◌}
 use Rattle.std.specs.List.{list_any}
 use Rattle.std.proofs.Math.Bool.{and-false, and-true}
 use Rattle.pv_lines.specs.declared.line.Line.{Line}
@@ -12,40 +10,16 @@ use Rattle.pv_steps.specs.declared.step.Step.{Step}
 use Rattle.pv_steps.specs.declared.why.Why.{Why}
 use Rattle.pv_steps.specs.Trees.{Files, Places, places, IsTree}
 use Rattle.pv_steps.specs.Runs.{Ran}
-use Rattle.pv_metadata.specs.Edits.{Pruned}
+use Rattle.pv_walk.specs.Edits.{Pruned}
 use Rattle.pv_walk.specs.Removal.{is_one_of}
-use Rattle.pv_find.specs.Whole.{goes_whole}
-use Rattle.pv_find.proofs.WholeLaws.{goes_parts, goes_from, goes_whole-same, all_at-each, each-all_at}
+use Rattle.pv_walk.specs.Whole.{goes_whole, all_at}
+use Rattle.pv_walk.proofs.WholeLaws.{goes_whole-same, all_at-each, each-all_at}
 use Rattle.pv_table.specs.Reaching.{path_in}
-use Rattle.pv_table.specs.Removed.{all_at, covers, is_gone, is_purged, purged, purges, refused_place, removed}
+use Rattle.pv_table.specs.Removed.{covers, is_gone, is_purged, purged, purges, refused_place, removed}
 use Rattle.pv_remove.specs.Ended.{IsMended}
 use Rattle.pv_remove.proofs.StopLaws.{purge_mends, removal_mends, run_mends}
 use Rattle.pv_path.proofs.Tests.{same_tests}
-
--- what stands below what is not the root is not the root
-below_no_root : (p q : Path) → is_prefix p q ≡ true → not (length p == 0) ≡ true → not (length q == 0) ≡ true
-below_no_root [] q under h = cc
-below_no_root (n ∷ p) [] under h = cc
-below_no_root (n ∷ p) (m ∷ q) under h = more (length q)
-  where
-    more : (k : ℕ) → not (suc k == 0) ≡ true
-    more k = let no : (suc k == 0) ≡ false = grind (arith, nat_tests) in ap not no
-
--- what goes whole goes with all that stands below it
-pub goes_below : (test : Path → Bool) (t : Files) (p q : Path) → goes_whole test t p ≡ true → is_prefix p q ≡ true → is_some (places t q) ≡ true → goes_whole test t q ≡ true
-goes_below test t p q h under there =
-    let parts = goes_parts test t p h in
-    goes_from test t q there (below_no_root p q under parts.1) (each-all_at test t q (λ r at below. all_at-each test t p parts.2 r at (is_prefix-trans p q r under below)))
-
--- what goes whole with others that go whole
-pub goes_again : (test : Path → Bool) (t : Files) (q : Path) → goes_whole (goes_whole test t) t q ≡ goes_whole test t q
-goes_again test t q = same_tests (goes_whole (goes_whole test t) t q) (goes_whole test t q)
-    (λ h.
-    let parts = goes_parts (goes_whole test t) t q h in
-    all_at-each (goes_whole test t) t q parts.2 q parts.0 (is_prefix-refl q))
-    (λ h.
-    let parts = goes_parts test t q h in
-    goes_from (goes_whole test t) t q parts.0 parts.1 (each-all_at (goes_whole test t) t q (λ r there under. goes_below test t q r h under there)))
+use Rattle.pv_table.proofs.GoingLaws.{any_weaken, goes_again}
 
 -- paths that go whole by some test go whole with each other
 pub goes_together : (keys : List Path) (test : Path → Bool) (t : Files) → ((q : Path) → is_one_of keys q ≡ goes_whole test t q) → (q : Path) → is_one_of keys q ≡ goes_whole (is_one_of keys) t q
@@ -70,19 +44,6 @@ pub removal_mended : (lines : List Line) (Q : Step → Type 0) (now : ℕ) (t : 
 removal_mended lines Q now t h u k fits tree run = run_mends (removed lines) (is_gone lines t) Q now t h u k fits tree (λ later v there pruned. removal_mends lines now later t v there pruned) run
 
 -- ---- purging
-
--- where one test passes what another does, some pass it where some pass the other
-pub any_weaken : {A : Type 0} (f g : A → Bool) → ((x : A) → f x ≡ true → g x ≡ true) → (xs : List A) → list_any f xs ≡ true → list_any g xs ≡ true
-any_weaken f g more [] h = cc
-any_weaken f g more (x ∷ xs) h = by (f x) refl (any_weaken f g more xs) h
-  where
-    or_true : (b : Bool) → list_any g xs ≡ true → (b || list_any g xs) ≡ true
-    or_true true h = refl
-    or_true false h = h
-
-    by : (b : Bool) → f x ≡ b → (list_any f xs ≡ true → list_any g xs ≡ true) → (b || list_any f xs) ≡ true → list_any g (x ∷ xs) ≡ true
-    by true e rest h = ap (λ b. b || list_any g xs) (more x e)
-    by false e rest h = or_true (g x) (rest h)
 
 purges-below : (line : Line) (t : Places) (q r : Path) → is_prefix q r ≡ true → purges line t q ≡ true → purges line t r ≡ true
 purges-below line t q r under h = by line.purge (is_prefix (path_in line.path) q) refl (is_none (refused_place line t (path_in line.path))) h

@@ -3,7 +3,6 @@ use Rattle.std.specs.Prelude.{◌≡◌, ℕ, ◌-◌, ◌+◌, ◌^◌, ◌<◌
 use Rattle.std.proofs.Common.{refl, sym, ap, subst, ◌∙◌, inl, inr}
 use Rattle.std.specs.List.{list_any, range_with_len}
 use Rattle.std.proofs.Math.Seq.{drop-append_seam}
-use Rattle.std.specs.FinMap as fin
 use Rattle.std.specs.Option.{option_map_or}
 use Rattle.pv_lines.specs.declared.line.Line.{Line}
 use Rattle.pv_path.specs.Paths.{Path, is_prefix}
@@ -17,33 +16,22 @@ use Rattle.pv_steps.specs.Runs.{Ran, after_all}
 use Rattle.pv_steps.specs.Same.{object_states, Same}
 use Rattle.pv_steps.specs.Trees.{Files, Places, places, kind_of, IsTree}
 use Rattle.pv_steps.proofs.RunLaws.{along_prefix, along_trees}
-use Rattle.pv_steps.proofs.StepLaws.{places-tabulate, among_keys}
 use Rattle.pv_steps.proofs.TreeLaws.{present_above}
-use Rattle.pv_metadata.specs.Edits.{Pruned}
+use Rattle.pv_walk.specs.Edits.{Pruned}
 use Rattle.pv_walk.specs.Removal.{loses_child, without}
-use Rattle.pv_find.proofs.WholeLaws.{goes_parts, goes_from, all_at-each, each-all_at}
+use Rattle.pv_walk.proofs.WholeLaws.{goes_parts, goes_from, all_at-each, each-all_at}
 use Rattle.pv_table.specs.declared.taking.Taking.{Taking}
 use Rattle.pv_table.specs.declared.taking.Taking.TheVariants as taking
 use Rattle.pv_table.specs.ActionTable.{taking_of}
 use Rattle.pv_table.specs.Reaching.{names, path_in}
-use Rattle.pv_table.specs.Removed.{all_at, covers, is_directory_at, is_gone, is_named, files_without, is_purged, owner_given, purges, purged, refused_place, removed}
+use Rattle.pv_table.specs.Removed.{covers, is_directory_at, is_gone, is_named, files_without, is_purged, owner_given, purges, purged, refused_place, removed}
+use Rattle.pv_walk.specs.Whole.{all_at}
 use Rattle.pv_remove.specs.Ended.{IsMended}
 use Rattle.pv_path.proofs.Tests.{same_tests}
 use Rattle.pv_table.proofs.QuietLaws.{kind_object_state, present_object_state}
+use Rattle.pv_table.proofs.GoingLaws.{places-without}
 
 -- ---- what a tree without some paths has
-
-without_key : (goes : Path → Bool) (change : Object → Object) (t : Files) (q : Path) → is_some (without goes change t q) ≡ true → is_some (places t q) ≡ true
-without_key goes change t q = by (goes q) (loses_child goes t q) (places t q)
-  where
-    by : (g l : Bool) (o : Option Object) → is_some (cond g None (cond l (option_map change o) o)) ≡ true → is_some o ≡ true
-    by true l o h = cc
-    by false true None h = cc
-    by false true (Some x) h = refl
-    by false false o h = h
-
-pub places-without : (goes : Path → Bool) (change : Object → Object) (t : Files) (q : Path) → places (files_without goes change t) q ≡ without goes change t q
-places-without goes change t q = places-tabulate (fin.keys t) (without goes change t) q (λ h. among_keys t q ∙ without_key goes change t q h)
 
 -- stamps aside, where only stamps change
 pub object_states-without : (goes : Path → Bool) (change : Object → Object) → ((o : Object) → object_state (change o) ≡ object_state o) → (t : Files) (q : Path) → object_states (places (files_without goes change t)) q ≡ cond (goes q) None (object_states (places t) q)
@@ -209,11 +197,6 @@ purge_mends lines now later t u tree pruned =
     first false b c h = absurd (let wrong : false ≡ true = h in cc)
 
 -- ---- runs that were cut short
-
--- what holds at each moment of a run holds after each number of the steps that it told
-pub told_prefix : (P : Files → Type 0) (Q : Step → Type 0) (now : ℕ) (t : Files) (h : List Step) (u : Files) (k : List Step) → Ran P Q now t h u k → (n : ℕ) → P (after_all t (take n (drop (length h) k)) now)
-told_prefix P Q now t h u k run n =
-    subst (λ (steps : List Step). P (after_all t (take n steps) now)) (sym (ap (drop (length h)) run.recorded ∙ drop-append_seam h run.steps)) (along_prefix P t run.steps now n run.along)
 
 pub run_mends : (whole : ℕ → Files → Files) (goes : Path → Bool) → (Q : Step → Type 0) (now : ℕ) (t : Files) (h : List Step) (u : Files) (k : List Step) → now < 2 ^ 64 → IsTree t
     → ((later : ℕ) (v : Files) → IsTree v → Pruned goes t v → Same (whole later v) (whole now t)) → Ran (Pruned goes t) Q now t h u k → IsMended whole now t (drop (length h) k)

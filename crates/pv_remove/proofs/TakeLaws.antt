@@ -5,7 +5,7 @@ use Rattle.std.proofs.lemmas.List.{append-nil}
 use Rattle.std.proofs.lemmas.List.Sorted.{IsPermutation-reverse, IsPermutation-sym, list_any-IsPermutation}
 use Rattle.std.specs.List.Sorted.{IsStrictlySortedBy, IsNonDecreasingBy}
 use Rattle.std.specs.FinMap as fin
-use Rattle.pv_doing.specs.declared.carried.Carried.{Carried}
+use Rattle.pv_steps.specs.declared.carried.Carried.{Carried}
 use Rattle.pv_path.specs.Paths.{Path, path_cmp, same_path}
 use Rattle.pv_steps.specs.declared.step.Step.{Step}
 use Rattle.pv_steps.specs.declared.tree.Tree.{Ghosts}
@@ -17,17 +17,17 @@ use Rattle.pv_steps.specs.Objects.{modified}
 use Rattle.pv_steps.specs.Trees.{Files, places}
 use Rattle.pv_steps.proofs.ActingLaws.{Moves, well, acted_none, acted_passed, acted_ended}
 use Rattle.pv_steps.proofs.StepLaws.{same_files}
-use Rattle.pv_metadata.specs.Edits.{Pruned}
+use Rattle.pv_walk.specs.Edits.{Pruned}
 use Rattle.pv_walk.specs.Listing.{times, AreRemovable}
 use Rattle.pv_walk.specs.Removal.{is_one_of, removal_at, without, DonePart}
 use Rattle.pv_walk.proofs.CountLaws.{length-times, times-filter, times-keys}
 use Rattle.pv_walk.proofs.TakingLaws.{one_of-some, one_of-counted}
-use Rattle.pv_find.specs.Whole.{count_of, goes_whole, AreDeepestFirst}
-use Rattle.pv_find.proofs.WholeLaws.{goes_parts, times-rising, whole_removable}
+use Rattle.pv_walk.specs.Whole.{count_of, goes_whole, AreDeepestFirst}
+use Rattle.pv_walk.proofs.WholeLaws.{goes_parts, times-rising, whole_removable}
 use Rattle.pv_table.specs.Removed.{files_without}
 use Rattle.pv_text.specs.GivenMessages.{MessagesPart}
 use Rattle.pv_remove.specs.Ended.{TakesAway, TakesInOrder}
-use Rattle.pv_remove.proofs.StopLaws.{places-without}
+use Rattle.pv_table.proofs.GoingLaws.{places-without}
 use Rattle.pv_path.proofs.Tests.{same_tests}
 use Rattle.pv_walk.proofs.SweepLaws.{pruned-none}
 

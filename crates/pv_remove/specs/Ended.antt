@@ -1,10 +1,10 @@
 -- What a phase that takes away does, says and answers, and that one which was cut short is mended by the next
 -- (tmpfiles.d(5), r, R and D; systemd-tmpfiles(8), --purge).
 use Rattle.std.specs.Prelude.{◌≡◌, ℕ, Bool, List, ◌++◌, drop, length, map, take, Result, IfOk, IsErrOf, OnOk}
-use Rattle.pv_doing.specs.declared.carried.Carried.{Carried}
-use Rattle.pv_doing.specs.Courses.{carried_of}
-use Rattle.pv_metadata.specs.Edits.{Pruned}
-use Rattle.pv_find.specs.Whole.{count_of, AreDeepestFirst}
+use Rattle.pv_steps.specs.declared.carried.Carried.{Carried}
+use Rattle.pv_steps.specs.Courses.{carried_of}
+use Rattle.pv_walk.specs.Edits.{Pruned}
+use Rattle.pv_walk.specs.Whole.{count_of, AreDeepestFirst}
 use Rattle.pv_path.specs.Paths.{Path}
 use Rattle.pv_steps.specs.declared.step.Step.{Step}
 use Rattle.pv_steps.specs.declared.tree.Tree.{Ghosts}

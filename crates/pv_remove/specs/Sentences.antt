@@ -1,17 +1,14 @@
 -- The manual's sentences on what goes, each said of a path by what goes of what stands in it (tmpfiles.d(5), r, R and D).
-use Rattle.std.specs.Prelude.{Bool, false, not, ◌+◌, ◌&&◌, ◌||◌, ◌==◌, List, [], ◌∷◌, ◌++◌, length, take, is_some}
-use Rattle.std.specs.List.{list_all, list_any, range_with_len}
+use Rattle.std.specs.Prelude.{Bool, false, not, ◌+◌, ◌&&◌, ◌==◌, List, length, take, is_some}
+use Rattle.std.specs.List.{list_any, range_with_len}
 use Rattle.pv_lines.specs.declared.line.Line.{Line}
 use Rattle.pv_path.specs.Paths.{Path}
-use Rattle.pv_steps.specs.Trees.{Files, places, names_below}
+use Rattle.pv_steps.specs.Trees.{Files, places}
 use Rattle.pv_table.specs.declared.taking.Taking.{Taking}
 use Rattle.pv_table.specs.declared.taking.Taking.TheVariants as taking
 use Rattle.pv_table.specs.ActionTable.{taking_of}
 use Rattle.pv_table.specs.Removed.{is_directory_at, is_named}
-
--- what stands at a path is no directory, or all that stands in it goes
-abbrev pub children_go : (Path → Bool) → Files → Path → Bool
-children_go goes t path = not (is_directory_at (places t) path) || list_all (λ name. goes (path ++ name ∷ [])) (names_below t path)
+use Rattle.pv_table.specs.Children.{children_go}
 
 -- a line, where it is not refused, takes a path: R names it or what it lies below; D names a directory that it lies below;
 -- r names it, and it is no directory or all that stands in it goes

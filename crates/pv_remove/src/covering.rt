@@ -8,12 +8,11 @@ ghost use Rattle.pv_walk.specs.Removal.{is_one_of};
 ghost use Rattle.pv_table.specs.Removed.{covers, owner_given, refused_place};
 ghost use Rattle.pv_remove.specs.Covering.{takes};
 
-use pv_find::{at_and_below, named_paths, standing_at};
 use pv_lines::Line;
 use pv_path::TreePath;
 use pv_steps::{Tree, Why};
-use pv_table::{Taking, taking_of};
-use pv_walk::{below, refusal_of};
+use pv_table::{Taking, named_paths, standing_at, taking_of};
+use pv_walk::{at_and_below, below, refusal_of};
 use std::alloc::{AllocError, Global};
 
 /// The present paths that some line covers, in no order.

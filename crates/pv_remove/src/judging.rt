@@ -11,12 +11,12 @@ ghost use Rattle.pv_table.specs.Reaching.{path_in};
 ghost use Rattle.pv_table.specs.Removed.{is_directory_at, is_gone, is_unfinished, judged, keeps, left_kind, not_empty, refused_place, removal_texts, removed_messages, unrefused_texts};
 
 use crate::covering::refusal;
-use pv_find::{is_among, named_paths};
 use pv_lines::Line;
 use pv_path::{TreePath, print_path};
 use pv_steps::{Kind, Tree, is_directory, kind_at};
-use pv_table::{Taking, path_of, say_left, say_refused, taking_of};
+use pv_table::{Taking, named_paths, path_of, say_left, say_refused, taking_of};
 use pv_text::{Messages, Place};
+use pv_walk::is_among;
 use std::alloc::{AllocError, Global};
 use std::collections::BTreeSet;
 

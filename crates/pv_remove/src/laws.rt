@@ -8,7 +8,7 @@ ghost use Rattle.pv_path.specs.Paths.{Path};
 ghost use Rattle.pv_steps.specs.Content.{content_of};
 ghost use Rattle.pv_steps.specs.Same.{Same};
 ghost use Rattle.pv_steps.specs.Trees.{Files, places, IsTree};
-ghost use Rattle.pv_metadata.specs.Edits.{Pruned};
+ghost use Rattle.pv_walk.specs.Edits.{Pruned};
 ghost use Rattle.pv_table.specs.declared.reason.Reason.TheVariants as reason;
 ghost use Rattle.pv_table.specs.Reaching.{governs};
 ghost use Rattle.pv_table.specs.Removed.{is_gone, is_purged, is_unfinished, purged, removed};

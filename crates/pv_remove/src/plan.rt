@@ -2,13 +2,12 @@
 ghost use Rattle.std.specs.Prelude.{◌≡◌};
 ghost use Rattle.pv_path.specs.Paths.{Path};
 ghost use Rattle.pv_walk.specs.Removal.{is_one_of};
-ghost use Rattle.pv_find.specs.Whole.{goes_whole};
+ghost use Rattle.pv_walk.specs.Whole.{goes_whole};
 ghost use Rattle.pv_remove.specs.Ended.{TakesAway};
 
 use crate::taking_away::take_away;
-use pv_doing::Carried;
 use pv_path::TreePath;
-use pv_steps::{Tree, TreeFault};
+use pv_steps::{Carried, Tree, TreeFault};
 use pv_text::{Messages, say_all};
 use std::alloc::Global;
 use std::collections::BTreeSet;

@@ -12,13 +12,12 @@ ghost use Rattle.pv_remove.specs.Ended.{IsMended, TakesAway};
 
 use crate::covering::refusal;
 use crate::plan::{Plan, apply_plan};
-use pv_doing::Carried;
-use pv_find::{at_and_below, whole_of};
 use pv_lines::Line;
 use pv_path::TreePath;
-use pv_steps::{Tree, TreeFault, Why, is_present};
+use pv_steps::{Carried, Tree, TreeFault, Why, is_present};
 use pv_table::{Table, path_of, say_refused};
 use pv_text::Messages;
+use pv_walk::{at_and_below, whole_of};
 use std::alloc::{AllocError, Global};
 
 /// Takes away what lines with `$` name, each with all below it (systemd-tmpfiles(8), --purge), as all of it is judged in

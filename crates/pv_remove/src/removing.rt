@@ -9,11 +9,10 @@ ghost use Rattle.pv_remove.specs.Ended.{IsMended, TakesAway};
 use crate::covering::covered_paths;
 use crate::judging::judge;
 use crate::plan::{Plan, apply_plan};
-use pv_doing::Carried;
-use pv_find::whole_of;
-use pv_steps::{Tree, TreeFault};
+use pv_steps::{Carried, Tree, TreeFault};
 use pv_table::Table;
 use pv_text::Messages;
+use pv_walk::whole_of;
 use std::alloc::{AllocError, Global};
 
 /// Takes away what lines r, R and D name (tmpfiles.d(5)), as all of it is judged in the tree before the phase: the

@@ -4,16 +4,15 @@ ghost use Rattle.pv_path.specs.Paths.{Path};
 ghost use Rattle.pv_steps.specs.Acting.{Acted};
 ghost use Rattle.pv_steps.specs.Content.{Removes};
 ghost use Rattle.pv_steps.specs.Objects.{modified};
-ghost use Rattle.pv_metadata.specs.Edits.{Pruned};
+ghost use Rattle.pv_walk.specs.Edits.{Pruned};
 ghost use Rattle.pv_walk.specs.Removal.{is_one_of};
-ghost use Rattle.pv_find.specs.Whole.{count_of, goes_whole};
+ghost use Rattle.pv_walk.specs.Whole.{count_of, goes_whole};
 ghost use Rattle.pv_table.specs.Removed.{files_without};
 ghost use Rattle.pv_remove.specs.Ended.{TakesInOrder};
 
-use pv_find::deepest_last;
 use pv_path::TreePath;
 use pv_steps::{Tree, TreeFault};
-use pv_walk::remove_all;
+use pv_walk::{deepest_last, remove_all};
 use std::alloc::Global;
 use std::collections::BTreeSet;
 

@@ -9,3 +9,5 @@ pub mod TryingLaws
 pub mod NameLaws
 pub mod ContentLaws
 pub mod LeavingLaws
+pub mod CourseLaws
+pub mod CarryingLaws

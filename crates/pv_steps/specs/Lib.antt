@@ -10,3 +10,5 @@ pub mod Trying
 pub mod Same
 pub mod Content
 pub mod Refusal
+pub mod Doing
+pub mod Courses

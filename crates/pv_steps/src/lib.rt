@@ -1,9 +1,10 @@
-//! What a tree is and what a step does to it: the definitions on which every run of the program stands,
-//! and the trait of the trees that can be walked and changed.
+//! What a tree is and what a step does to it: the definitions on which every run of the program stands, the trait of
+//! the trees that can be walked and changed, and what several things leave that are done one after the other.
 #![tactic(auto)]
 
 mod asking;
 mod attr;
+mod carried;
 mod laws;
 mod letters;
 mod looking;
@@ -15,6 +16,7 @@ mod why;
 
 pub use asking::{try_all, try_step};
 pub use attr::{Attr, AttrList, is_attr, is_attr_name};
+pub use carried::Carried;
 pub use laws::{
     a_run_leaves_what_it_does_not_alter, a_run_outside_leaves_contents, a_run_passes_trees,
     a_run_passes_trees_on_the_way, a_step_leaves_a_tree, a_step_leaves_what_it_says,

@@ -14,3 +14,17 @@ pub mod AgainLaws
 pub mod FinishLaws
 pub mod MemberLaws
 pub mod StockLaws
+pub mod MovingLaws
+pub mod StagingLaws
+pub mod SweepingLaws
+pub mod FileWritingLaws
+pub mod ActedLaws
+pub mod DirectoryLaws
+pub mod EditingLaws
+pub mod RunningLaws
+pub mod SameLaws
+pub mod BesideLaws
+pub mod StopLaws
+pub mod MendedLaws
+pub mod SweptLaws
+pub mod TurnLaws

@@ -12,3 +12,10 @@ pub mod Plans
 pub mod Planning
 pub mod Allowed
 pub mod Finishing
+pub mod Edits
+pub mod FileWriting
+pub mod Accounted
+pub mod Running
+pub mod Mended
+pub mod Swept
+pub mod Turns

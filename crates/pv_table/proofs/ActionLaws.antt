@@ -6,8 +6,8 @@ use Rattle.std.specs.Option.{option_map_or}
 use Rattle.std.proofs.lemmas.Bool.{cases_lt, eqb-true, or_parts}
 use Rattle.std.proofs.Math.Seq.{take-append_seam}
 use Rattle.std.proofs.Math.Bool.{or-true}
-use Rattle.pv_metadata.specs.declared.operation.Operation.TheVariants.{Erase}
-use Rattle.pv_metadata.specs.declared.operation.Test.{Test}
+use Rattle.pv_walk.specs.declared.operation.Operation.TheVariants.{Erase}
+use Rattle.pv_walk.specs.declared.operation.Test.{Test}
 use Rattle.pv_lines.specs.declared.line.Line.{Line}
 use Rattle.pv_lines.specs.declared.line.LinePath.{LinePath}
 use Rattle.pv_lines.specs.declared.line.LinePath.TheVariants.{Literal, Glob}

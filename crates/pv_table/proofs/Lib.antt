@@ -12,3 +12,6 @@ pub mod SayingLaws
 pub mod EffectLaws
 pub mod ListedLaws
 pub mod Restamping
+pub mod GoingLaws
+pub mod ChildrenLaws
+pub mod GoingInput

@@ -7,11 +7,11 @@ use Rattle.std.specs.FinMap.Entries as entries
 use Rattle.std.specs.List.{filter_map, range_with_len}
 use Rattle.std.specs.Option.{option_map_or, option_or}
 use Rattle.std.specs.Ordering.{eq_by_cmp, is_lt}
-use Rattle.pv_metadata.specs.declared.object_state.ObjectState.{ObjectState}
-use Rattle.pv_metadata.specs.declared.operation.Operation.{Operation}
-use Rattle.pv_metadata.specs.Edits.{all_taken, cut, taken}
-use Rattle.pv_metadata.specs.Nodes.{object_state_of, object_states_of}
-use Rattle.pv_metadata.specs.Operations.{done}
+use Rattle.pv_walk.specs.declared.object_state.ObjectState.{ObjectState}
+use Rattle.pv_walk.specs.declared.operation.Operation.{Operation}
+use Rattle.pv_walk.specs.Edits.{all_taken, cut, taken}
+use Rattle.pv_walk.specs.Nodes.{object_state_of, object_states_of}
+use Rattle.pv_walk.specs.Operations.{done}
 use Rattle.pv_lines.specs.declared.line.Line.{Line}
 use Rattle.pv_path.specs.Names.{same_bytes}
 use Rattle.pv_path.specs.Paths.{Path, is_prefix, path_cmp, path_exact, path_total, rest_under, same_path}
@@ -33,7 +33,8 @@ use Rattle.pv_table.specs.declared.action.Adjustment.{Adjustment}
 use Rattle.pv_table.specs.Active.{in_create_order}
 use Rattle.pv_table.specs.ActionTable.{action_of, id_for_new}
 use Rattle.pv_text.specs.GivenMessages.{message_text_at}
-use Rattle.pv_table.specs.Created.{Doing, IsQuiet, after_each, by_line, by_turn, created, created_messages, one_is_refused, messages_for_each}
+use Rattle.pv_table.specs.Created.{IsQuiet, by_line, by_turn, created, created_messages}
+use Rattle.pv_steps.specs.Doing.{Doing, after_each, one_is_refused, messages_for_each}
 use Rattle.pv_table.specs.Effects.{adjusted, as_object_state, become, carried_out, is_adjusted, prepare, put_paths, restamped, same_object_state, adjust_at, turn_after, turned, turns}
 use Rattle.pv_table.specs.Reaching.{names, path_in}
 use Rattle.pv_table.specs.Saying.{found, refused_text, texts, turn_texts}

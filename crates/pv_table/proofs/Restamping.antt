@@ -13,10 +13,10 @@ use Rattle.pv_steps.specs.declared.node.Kind.{Kind}
 use Rattle.pv_steps.specs.declared.node.Kind.TheVariants.{Directory, File, Link, Fifo, CharDevice, BlockDevice}
 use Rattle.pv_steps.specs.declared.object.Object.{Object}
 use Rattle.pv_steps.specs.Objects.{changed, modified}
-use Rattle.pv_metadata.specs.declared.object_state.ObjectState.{ObjectState}
-use Rattle.pv_metadata.specs.Nodes.{object_state_of, same_kind}
+use Rattle.pv_walk.specs.declared.object_state.ObjectState.{ObjectState}
+use Rattle.pv_walk.specs.Nodes.{object_state_of, same_kind}
 use Rattle.pv_table.specs.Effects.{same_attr, same_object_state, as_object_state, restamped}
-use Rattle.pv_metadata.proofs.Repeating.{same_kind-refl}
+use Rattle.pv_walk.proofs.Repeating.{same_kind-refl}
 
 -- ---- the same but for stamps
 

@@ -2,7 +2,7 @@
 -- phase begins.
 use Rattle.std.specs.Prelude.{ℕ, Bool, false, not, ◌&&◌, ◌==◌, List, length, Option, Some, is_some}
 use Rattle.std.specs.List.{list_any}
-use Rattle.pv_age.specs.Old.{is_old}
+use Rattle.pv_table.specs.Old.{is_old}
 use Rattle.pv_lines.specs.declared.line.Line.{Line}
 use Rattle.pv_path.specs.Paths.{Path, parent_of}
 use Rattle.pv_steps.specs.declared.object.Object.{Object}
@@ -10,7 +10,8 @@ use Rattle.pv_steps.specs.Objects.{changed}
 use Rattle.pv_steps.specs.Trees.{Files, places}
 use Rattle.pv_table.specs.declared.scope.Scope.{Scope}
 use Rattle.pv_table.specs.Reaching.{names}
-use Rattle.pv_table.specs.Removed.{all_at, files_without}
+use Rattle.pv_table.specs.Removed.{files_without}
+use Rattle.pv_walk.specs.Whole.{all_at}
 use Rattle.pv_table.specs.Scopes.{scope}
 
 -- whether an object is old by the age of its directory, where that does not spare what stands directly in it

@@ -1,10 +1,10 @@
 -- Lines carried out one after the other: the tree that they leave, what is said, whether one was refused, and the most
 -- steps that it takes (tmpfiles.d(5)).
-use Rattle.std.specs.Prelude.{◌≡◌, ℕ, ◌+◌, ◌*◌, Bool, false, not, ◌&&◌, ◌||◌, List, [], ◌∷◌, ◌++◌, map, filter, fold, sum, Option, Some, None, is_some, if◌then◌else◌}
+use Rattle.std.specs.Prelude.{◌≡◌, ℕ, ◌+◌, ◌*◌, Bool, false, not, ◌&&◌, List, map, filter, sum, Option, Some, None, is_some, if◌then◌else◌}
 use Rattle.std.specs.FinMap as fin
-use Rattle.pv_metadata.specs.declared.operation.Operation.{Operation}
-use Rattle.pv_metadata.specs.Edits.{count_at}
-use Rattle.pv_metadata.specs.Nodes.{object_state_of}
+use Rattle.pv_walk.specs.declared.operation.Operation.{Operation}
+use Rattle.pv_walk.specs.Edits.{count_at}
+use Rattle.pv_walk.specs.Nodes.{object_state_of}
 use Rattle.pv_lines.specs.declared.line.Line.{Line}
 use Rattle.pv_path.specs.Paths.{Path}
 use Rattle.pv_steps.specs.declared.object.Object.{Object}
@@ -20,32 +20,7 @@ use Rattle.pv_table.specs.ActionTable.{action_of}
 use Rattle.pv_table.specs.Effects.{same_object_state, become, prepare, is_adjusted, turn_after, turns}
 use Rattle.pv_table.specs.Saying.{turn_messages}
 use Rattle.pv_table.specs.Turns.{Turn, view_of, has_something, decide, refused_at}
-
--- ---- one after the other
-
--- something that is done over a tree: what it leaves, what is said of it, whether a place is refused to it, and at most
--- how many steps it takes
-pub record Doing (A : Type 0) : Type 0 where
-  pub after : A → Files → Files
-  pub says : A → Files → List (List ℕ)
-  pub is_refused : A → Files → Bool
-  pub takes : A → Files → ℕ
-
--- the same for several, each over the tree that those before it leave
-abbrev pub after_each : {A : Type 0} → Doing A → List A → Files → Files
-after_each d xs t = fold (λ u x. d.after x u) t xs
-
-abbrev pub messages_for_each : {A : Type 0} → Doing A → List A → Files → List (List ℕ)
-messages_for_each d [] t = []
-messages_for_each d (x ∷ xs) t = d.says x t ++ messages_for_each d xs (d.after x t)
-
-abbrev pub one_is_refused : {A : Type 0} → Doing A → List A → Files → Bool
-one_is_refused d [] t = false
-one_is_refused d (x ∷ xs) t = d.is_refused x t || one_is_refused d xs (d.after x t)
-
-abbrev pub taken_by_each : {A : Type 0} → Doing A → List A → Files → ℕ
-taken_by_each d [] t = 0
-taken_by_each d (x ∷ xs) t = d.takes x t + taken_by_each d xs (d.after x t)
+use Rattle.pv_steps.specs.Doing.{Doing, after_each, messages_for_each, one_is_refused, taken_by_each}
 
 -- ---- the most steps of one turn
 

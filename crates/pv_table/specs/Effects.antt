@@ -3,11 +3,11 @@ use Rattle.std.specs.Prelude.{ℕ, Bool, not, ◌&&◌, ◌||◌, ◌==◌, List
 use Rattle.std.specs.FinMap as fin
 use Rattle.std.specs.List.{filter_map}
 use Rattle.std.specs.Cmp.Lexicographic.{pointwise}
-use Rattle.pv_metadata.specs.declared.object_state.ObjectState.{ObjectState}
-use Rattle.pv_metadata.specs.declared.operation.Operation.{Operation}
+use Rattle.pv_walk.specs.declared.object_state.ObjectState.{ObjectState}
+use Rattle.pv_walk.specs.declared.operation.Operation.{Operation}
 use Rattle.pv_acl.specs.contracts.part.AclPartialEq as acl_eq
-use Rattle.pv_metadata.specs.Nodes.{object_state_of, same_kind}
-use Rattle.pv_metadata.specs.Operations.{done}
+use Rattle.pv_walk.specs.Nodes.{object_state_of, same_kind}
+use Rattle.pv_walk.specs.Operations.{done}
 use Rattle.pv_lines.specs.declared.line.Line.{Line}
 use Rattle.pv_path.specs.Names.{same_bytes}
 use Rattle.pv_path.specs.Paths.{Path, same_path, is_prefix, rest_under, has_staging}

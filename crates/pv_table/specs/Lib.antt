@@ -14,3 +14,5 @@ pub mod Asked
 pub mod Removed
 pub mod Cleaned
 pub mod Repeatable
+pub mod Old
+pub mod Children

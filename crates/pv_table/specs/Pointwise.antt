@@ -4,9 +4,9 @@ use Rattle.std.specs.Prelude.{ℕ, Bool, not, ◌&&◌, ◌||◌, List, [], ◌�
 use Rattle.std.specs.FinMap as fin
 use Rattle.std.specs.List.{filter_map}
 use Rattle.std.specs.Option.{option_map_or}
-use Rattle.pv_metadata.specs.declared.object_state.ObjectState.{ObjectState}
-use Rattle.pv_metadata.specs.Nodes.{object_state_of}
-use Rattle.pv_metadata.specs.Operations.{run}
+use Rattle.pv_walk.specs.declared.object_state.ObjectState.{ObjectState}
+use Rattle.pv_walk.specs.Nodes.{object_state_of}
+use Rattle.pv_walk.specs.Operations.{run}
 use Rattle.pv_lines.specs.declared.line.Line.{Line}
 use Rattle.pv_path.specs.Paths.{Path, path_cmp, is_prefix, same_path, rest_under, has_staging}
 use Rattle.pv_walk.specs.Preparing.{parent_file, parents_of}

@@ -2,7 +2,7 @@
 -- --purge). All is judged in the tree before the phase.
 use Rattle.std.specs.Prelude.{ℕ, ◌+◌, Bool, false, not, ◌&&◌, ◌||◌, ◌==◌, List, [], ◌∷◌, ◌++◌, map, filter, length, take, Option, Some, None, is_some, is_none, unwrap_or, codes, if◌then◌else◌}
 use Rattle.std.specs.FinMap as fin
-use Rattle.std.specs.List.{list_all, list_any, flat_map, range_with_len}
+use Rattle.std.specs.List.{list_any, flat_map, range_with_len}
 use Rattle.std.specs.Option.{option_map_or}
 use Rattle.pv_lines.specs.declared.line.Line.{Line}
 use Rattle.pv_path.specs.Paths.{Path, is_prefix}
@@ -21,6 +21,7 @@ use Rattle.pv_table.specs.declared.taking.Taking.TheVariants as taking
 use Rattle.pv_table.specs.ActionTable.{id_for_new, taking_of}
 use Rattle.pv_table.specs.Reaching.{names, path_in}
 use Rattle.pv_table.specs.Saying.{place_text, left_text}
+use Rattle.pv_walk.specs.Whole.{all_at}
 
 -- a tree from which some paths are gone; a directory that stays and lost a child is changed in some way
 abbrev pub files_without : (Path → Bool) → (Object → Object) → Files → Files
@@ -54,10 +55,6 @@ covers line t q = by (taking_of line)
     by taking.Whole = list_any (λ k. is_named line t (take k q)) (range_with_len 0 (length q + 1))
     by taking.Contents = list_any (λ k. is_named line t (take k q) && is_directory_at t (take k q)) (range_with_len 0 (length q))
     by taking.Nothing = false
-
--- all that stands at and below a path passes a test
-abbrev pub all_at : (Path → Bool) → Files → Path → Bool
-all_at test t path = list_all (λ q. not (is_prefix path q) || test q) (fin.keys t)
 
 -- an object goes, unless it is the root, where all at and below it is covered
 abbrev pub is_gone : List Line → Files → Path → Bool

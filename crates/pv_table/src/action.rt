@@ -5,9 +5,8 @@ ghost use Rattle.pv_table.specs.Turns.{top_of};
 
 use crate::action_table::mode_for_new;
 use pv_lines::LineMode;
-use pv_metadata::{Guard, Operation, Test};
 use pv_path::{Sequence, TreePath};
-use pv_walk::{NewFile, TopNode};
+use pv_walk::{Guard, NewFile, Operation, Test, TopNode};
 
 /// Operations in their order.
 pub type OperationList = Sequence<Operation>;

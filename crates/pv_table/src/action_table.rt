@@ -1,8 +1,8 @@
 //! What lines of each type do: nothing else looks at the letter of a type.
 ghost use Rattle.std.specs.Prelude.{◌≡◌, ◌++◌, [], ◌∷◌, IfOk, OnOk};
 ghost use Rattle.std.specs.Option.{option_map_or};
-ghost use Rattle.pv_metadata.specs.declared.operation.Guard.TheVariants.{Every, NoLink, Only};
-ghost use Rattle.pv_metadata.specs.declared.operation.Operation.TheVariants.{Apply};
+ghost use Rattle.pv_walk.specs.declared.operation.Guard.TheVariants.{Every, NoLink, Only};
+ghost use Rattle.pv_walk.specs.declared.operation.Operation.TheVariants.{Apply};
 ghost use Rattle.pv_walk.specs.Staging.{new_kind};
 ghost use Rattle.pv_table.specs.Active.{is_adjusting_line};
 ghost use Rattle.pv_table.specs.ActionTable.{action_of, bytes_of, contents_to_set, copying, device, id_for_new, id_to_set, is_writing, link_to, making, mode_for_new, mode_to_set, owners_and_mode, renewal, set_by, source_of, sparing_of, taking_of, adjustment, without_links, writing};
@@ -11,10 +11,9 @@ use crate::action::{Action, Adjustment, Copying, Making, OperationList};
 use crate::taking::{Sparing, Taking};
 use pv_acl::How;
 use pv_lines::{Argument, Line, LineId, LineMode};
-use pv_metadata::{Change, Guard, Operation, Test};
 use pv_path::{Bytes, TreePath};
 use pv_steps::Kind;
-use pv_walk::{NewFile, NewKind};
+use pv_walk::{Change, Guard, NewFile, NewKind, Operation, Test};
 use std::alloc::{AllocError, Global};
 
 /// What a line asks for in the create phase (tmpfiles.d(5), "Type"). Types that neither make nor set anything there ask

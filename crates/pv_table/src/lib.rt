@@ -8,6 +8,8 @@ mod age_scope;
 mod building;
 mod laws;
 mod message;
+mod named;
+mod old;
 mod order;
 mod reach;
 mod reason;
@@ -26,6 +28,8 @@ pub use laws::{
     quiet_does_not_depend_on_the_moment, what_lies_above_comes_first,
 };
 pub use message::{left_text, place_text, say_left, say_refused, say_source_refused};
+pub use named::{named_paths, standing_at};
+pub use old::is_old;
 pub use order::{create_order, remove_order};
 pub use reach::{is_creating, names, names_first, path_of};
 pub use reason::Reason;

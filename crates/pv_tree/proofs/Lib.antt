@@ -11,3 +11,5 @@ pub mod WalkLaws
 pub mod GrowthLaws
 pub mod NodeLaws
 pub mod FuseLaws
+pub mod PlanLaws
+pub mod GrowLaws

@@ -3,13 +3,13 @@ use Rattle.std.specs.Prelude.{◌≡◌, ◌≢◌, ℕ, ◌≤◌, Bool, true, 
 use Rattle.std.proofs.Common.{refl, sym, ap, subst, ◌∙◌, inl, inr, ◌⊎◌, append_assoc, arith, length-append}
 use Rattle.std.proofs.lemmas.List.{append-nil}
 use Rattle.std.proofs.lemmas.Bool.{cases_Bool}
-use Rattle.pv_metadata.specs.declared.object_state.ObjectState.{ObjectState}
-use Rattle.pv_metadata.specs.declared.object_state.Body.{Body}
-use Rattle.pv_metadata.specs.declared.object_state.Metadata.{Metadata}
-use Rattle.pv_metadata.specs.SettingMetadata.{IsMetadata, CanSetMetadata, ChangedAt, IsChanged, GivesMetadata, with_metadata}
-use Rattle.pv_metadata.specs.Edits.{SameOutside}
-use Rattle.pv_metadata.specs.Nodes.{object_state_of, object_states_of}
-use Rattle.pv_metadata.proofs.EditLaws.{path_cases, made-here, put_at-here, put_at-else, object_states-touched}
+use Rattle.pv_walk.specs.declared.object_state.ObjectState.{ObjectState}
+use Rattle.pv_walk.specs.declared.object_state.Body.{Body}
+use Rattle.pv_walk.specs.declared.object_state.Metadata.{Metadata}
+use Rattle.pv_walk.specs.SettingMetadata.{IsMetadata, CanSetMetadata, ChangedAt, IsChanged, GivesMetadata, with_metadata}
+use Rattle.pv_walk.specs.Edits.{SameOutside}
+use Rattle.pv_walk.specs.Nodes.{object_state_of, object_states_of}
+use Rattle.pv_walk.proofs.EditLaws.{path_cases, made-here, put_at-here, put_at-else, object_states-touched}
 use Rattle.pv_path.specs.Paths.{Path, is_prefix, same_path, parent_of, rest_under}
 use Rattle.pv_path.proofs.PathLaws.{rest_under-append, rest_under-None, prefix_parts, length-parent_of, is_prefix-append, path_ends, parent_of-push, same_path-refl}
 use Rattle.pv_steps.specs.declared.node.Kind.TheVariants.{Directory}

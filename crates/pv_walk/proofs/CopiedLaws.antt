@@ -18,12 +18,12 @@ use Rattle.pv_steps.proofs.ObjectLaws.{IsObject-with_owner, IsObject-with_mode}
 use Rattle.pv_steps.proofs.NameLaws.{names_below-rise, names_below-are}
 use Rattle.pv_steps.proofs.StepLaws.{is_among, later_among}
 use Rattle.pv_steps.proofs.TreeLaws.{present_above, directory_above}
-use Rattle.pv_metadata.specs.declared.object_state.ObjectState.{ObjectState}
-use Rattle.pv_metadata.specs.declared.object_state.Body.{Body}
-use Rattle.pv_metadata.specs.SettingMetadata.{IsMetadata}
-use Rattle.pv_metadata.specs.Nodes.{object_state_of, object_states_of, is_link}
-use Rattle.pv_metadata.specs.Operations as operations
-use Rattle.pv_metadata.proofs.EditLaws.{path_cases}
+use Rattle.pv_walk.specs.declared.object_state.ObjectState.{ObjectState}
+use Rattle.pv_walk.specs.declared.object_state.Body.{Body}
+use Rattle.pv_walk.specs.SettingMetadata.{IsMetadata}
+use Rattle.pv_walk.specs.Nodes.{object_state_of, object_states_of, is_link}
+use Rattle.pv_walk.specs.Operations as operations
+use Rattle.pv_walk.proofs.EditLaws.{path_cases}
 use Rattle.pv_walk.specs.declared.copying.TopNode.{TopNode}
 use Rattle.pv_walk.specs.Copying.{IsTopNode, moded, topped, copy_from}
 use Rattle.pv_walk.specs.Pieces.{what_of, plain, IsWhole, names_at}

@@ -6,7 +6,7 @@ use Rattle.std.proofs.lemmas.List.{append-nil}
 use Rattle.std.specs.List.{cons_option}
 use Rattle.std.specs.FinMap as fin
 use Rattle.std.proofs.lemmas.Bool.{cases_Bool}
-use Rattle.pv_metadata.specs.declared.object_state.ObjectState.{ObjectState}
+use Rattle.pv_walk.specs.declared.object_state.ObjectState.{ObjectState}
 use Rattle.pv_path.specs.Paths.{Path, same_path, rest_under}
 use Rattle.pv_path.proofs.PathLaws.{rest_under-append, rest_under-Some, same_path-refl}
 use Rattle.pv_steps.specs.Trees.{Files, places}
@@ -20,7 +20,7 @@ use Rattle.pv_walk.specs.Pieces.{what_of, built, made_of, IsPlan, IsDoable, AreD
 use Rattle.pv_walk.specs.Staging.{most_staged}
 use Rattle.pv_walk.proofs.CountLaws.{times-filter, times-keys, length-times, same_or_not}
 use Rattle.pv_walk.proofs.BuildingLaws.{rest_same}
-use Rattle.pv_metadata.specs.Nodes.{object_state_of}
+use Rattle.pv_walk.specs.Nodes.{object_state_of}
 use Rattle.pv_walk.specs.Making.{held_object}
 use Rattle.pv_walk.proofs.ListingLaws.{cond-one, cond-zero}
 use Rattle.pv_walk.proofs.RemovalLaws.{no_same}

@@ -4,14 +4,14 @@ use Rattle.std.proofs.Common.{refl, sym, ap, subst, ◌∙◌, inl, inr, ◌⊎�
 use Rattle.std.proofs.lemmas.List.{append-nil}
 use Rattle.std.specs.FinMap as fin
 use Rattle.std.proofs.lemmas.Bool.{cases_Bool}
-use Rattle.pv_metadata.specs.declared.object_state.ObjectState.{ObjectState}
-use Rattle.pv_metadata.specs.declared.object_state.Metadata.{Metadata}
-use Rattle.pv_metadata.specs.SettingMetadata.{GivesMetadata}
-use Rattle.pv_metadata.specs.Edits.{SameOutside, count_at}
-use Rattle.pv_metadata.specs.Nodes.{object_state_of, object_states_of}
-use Rattle.pv_metadata.proofs.MetadataLaws.{outside_setting_metadata}
-use Rattle.pv_metadata.proofs.EditLaws.{path_cases, object_states-stamped, object_states-touched, staging_outside}
-use Rattle.pv_metadata.proofs.OperationLaws.{object_states_of-same}
+use Rattle.pv_walk.specs.declared.object_state.ObjectState.{ObjectState}
+use Rattle.pv_walk.specs.declared.object_state.Metadata.{Metadata}
+use Rattle.pv_walk.specs.SettingMetadata.{GivesMetadata}
+use Rattle.pv_walk.specs.Edits.{SameOutside, count_at}
+use Rattle.pv_walk.specs.Nodes.{object_state_of, object_states_of}
+use Rattle.pv_walk.proofs.MetadataLaws.{outside_setting_metadata}
+use Rattle.pv_walk.proofs.EditLaws.{path_cases, object_states-stamped, object_states-touched, staging_outside}
+use Rattle.pv_walk.proofs.OperationLaws.{object_states_of-same}
 use Rattle.pv_path.specs.Paths.{Path, is_prefix, same_path, parent_of, rest_under, has_staging, staging_of}
 use Rattle.pv_path.proofs.PathLaws.{same_path-refl, rest_under-Some, prefix_rest, is_some-rest_under, parent_of-staging_of, has_staging-staging_of}
 use Rattle.pv_steps.specs.declared.node.Kind.TheVariants.{Directory}

@@ -12,7 +12,7 @@ use Rattle.pv_path.proofs.PathLaws.{same_path-refl, path_cmp-refl, tied-same}
 use Rattle.pv_steps.proofs.NameLaws.{child_name-Some, child_name-push}
 use Rattle.pv_steps.specs.declared.object.Object.{Object}
 use Rattle.pv_steps.specs.Trees.{Files, places, child_name}
-use Rattle.pv_metadata.specs.Edits.{count_at}
+use Rattle.pv_walk.specs.Edits.{count_at}
 use Rattle.pv_walk.specs.Listing.{times, is_child, children_of}
 
 pub times-append : (q : Path) (xs ys : List Path) → times q (xs ++ ys) ≡ times q xs + times q ys

@@ -10,7 +10,7 @@ use Rattle.pv_steps.specs.Objects.{modified}
 use Rattle.pv_steps.specs.Trees.{Files, Places, places, kind_of, names_below, IsTree, IsPresent}
 use Rattle.pv_steps.proofs.TreeLaws.{present_of_kind}
 use Rattle.pv_steps.specs.Steps.{put_at, on_at, touched, gone}
-use Rattle.pv_metadata.specs.Edits.{cut, cut_below, taken, emptied}
+use Rattle.pv_walk.specs.Edits.{cut, cut_below, taken, emptied}
 use Rattle.pv_walk.specs.Removal.{is_below}
 use Rattle.pv_walk.specs.Listing.{times, is_child, children_of, stands_below, IsListing}
 use Rattle.pv_walk.proofs.CountLaws.{times-self, times-children, same_or_not, is_child-push}

@@ -1,3 +1,17 @@
+pub mod ChangingLaws
+pub mod Settling
+pub mod Cutting
+pub mod Placing
+pub mod Puts
+pub mod LetterChanges
+pub mod PartChanges
+pub mod NodeChanges
+pub mod Absorbing
+pub mod Repeating
+pub mod Dividing
+pub mod OperationLaws
+pub mod MetadataLaws
+pub mod EditLaws
 pub mod WalkLaws
 pub mod StageLaws
 pub mod StagedLaws
@@ -23,3 +37,6 @@ pub mod CopyListing
 pub mod CopyingLaws
 pub mod NewLaws
 pub mod PreparedLaws
+pub mod FindingLaws
+pub mod WholeLaws
+pub mod OrderLaws

@@ -7,8 +7,8 @@ use Rattle.std.proofs.lemmas.Map.Keys.{IsDistinct-head, IsDistinct-tail}
 use Rattle.std.specs.Ordering.{eq_by_cmp, is_eq, nat_cmp}
 use Rattle.std.specs.Cmp.Lexicographic.{slice_cmp}
 use Rattle.std.proofs.lemmas.Bool.{or_right, cases_Bool}
-use Rattle.pv_metadata.specs.declared.object_state.ObjectState.{ObjectState}
-use Rattle.pv_metadata.proofs.EditLaws.{path_cases}
+use Rattle.pv_walk.specs.declared.object_state.ObjectState.{ObjectState}
+use Rattle.pv_walk.proofs.EditLaws.{path_cases}
 use Rattle.pv_path.specs.Names.{same_bytes}
 use Rattle.pv_path.specs.Paths.{Path, is_prefix, same_path}
 use Rattle.pv_path.proofs.PathLaws.{same_bytes-refl, same_bytes-decides, same_path-refl, name_cmp-refl, name_cmp-exact, parent_of-push, is_prefix-append, is_prefix-refl, is_prefix-trans, prefix_parts}

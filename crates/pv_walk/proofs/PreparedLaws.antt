@@ -10,10 +10,10 @@ use Rattle.pv_steps.specs.declared.object.Object.{Object}
 use Rattle.pv_steps.specs.Steps.{touched, made, put_at}
 use Rattle.pv_steps.specs.Trees.{Places}
 use Rattle.pv_steps.proofs.StepLaws.{is_among, is_some-touched, later_among}
-use Rattle.pv_metadata.specs.Edits.{cut, taken, all_taken}
-use Rattle.pv_metadata.specs.Nodes.{object_state_of, object_states_of}
-use Rattle.pv_metadata.proofs.EditLaws.{path_cases, object_states-touched, staging_outside}
-use Rattle.pv_metadata.proofs.OperationLaws.{object_states_of-same}
+use Rattle.pv_walk.specs.Edits.{cut, taken, all_taken}
+use Rattle.pv_walk.specs.Nodes.{object_state_of, object_states_of}
+use Rattle.pv_walk.proofs.EditLaws.{path_cases, object_states-touched, staging_outside}
+use Rattle.pv_walk.proofs.OperationLaws.{object_states_of-same}
 use Rattle.pv_walk.specs.Preparing.{parents_of, parent_file, with_parent, prepared}
 use Rattle.pv_walk.specs.Staging.{prefixes, staging_names, is_under_any, new_object}
 

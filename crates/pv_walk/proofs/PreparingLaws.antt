@@ -23,7 +23,7 @@ use Rattle.pv_steps.specs.declared.tree.TreeFault.{TreeFault}
 use Rattle.pv_steps.specs.declared.step.Step.{Step}
 use Rattle.pv_steps.specs.Acting.{refused, Acted}
 use Rattle.pv_steps.proofs.ActingLaws.{Moves, acted_then, acted_weaken, acted_end}
-use Rattle.pv_metadata.proofs.EditLaws.{path_cases, put_at-else, on_at-else, made-here}
+use Rattle.pv_walk.proofs.EditLaws.{path_cases, put_at-else, on_at-else, made-here}
 use Rattle.pv_walk.specs.Staging.{new_object, can_stage}
 use Rattle.pv_walk.proofs.RemovalLaws.{no_same}
 use Rattle.pv_walk.specs.Putting as putting

@@ -22,8 +22,8 @@ use Rattle.pv_steps.specs.declared.tree.Tree.{Ghosts}
 use Rattle.pv_steps.specs.declared.tree.TreeFault.{TreeFault}
 use Rattle.pv_steps.specs.Acting.{Acted}
 use Rattle.pv_steps.proofs.ActingLaws.{Moves, acted_then, acted_weaken, acted_end}
-use Rattle.pv_metadata.specs.Edits.{Pruned, cut, taken, all_taken}
-use Rattle.pv_metadata.proofs.EditLaws.{staging_outside}
+use Rattle.pv_walk.specs.Edits.{Pruned, cut, taken, all_taken}
+use Rattle.pv_walk.proofs.EditLaws.{staging_outside}
 use Rattle.pv_steps.specs.Content.{Removes}
 use Rattle.pv_walk.specs.Staging.{staging_names, is_under_any}
 use Rattle.pv_walk.proofs.RemovalLaws.{zero_or_more, no_same}

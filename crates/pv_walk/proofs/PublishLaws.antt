@@ -12,7 +12,7 @@ use Rattle.pv_steps.specs.Objects.{changed, modified, object_state}
 use Rattle.pv_steps.specs.Trees.{Files, Places, places, kind_of, IsPresentIn, IsAbsentIn, IsKindIn, IsTreeIn, IsPresent, IsTree}
 use Rattle.pv_steps.specs.Steps.{touched, moved, moved_at, carried, Movable, Yields, absent, directories}
 use Rattle.pv_steps.specs.Same.{Differ}
-use Rattle.pv_metadata.specs.Edits.{cut, taken, emptied}
+use Rattle.pv_walk.specs.Edits.{cut, taken, emptied}
 use Rattle.pv_walk.proofs.RemovalLaws.{IsKept, modified_kept, kept-kind, no_same, is_below-append, not_below_itself}
 use Rattle.pv_walk.proofs.EmptyingLaws.{emptied-below, emptied-kept, emptied-outside, present-taken}
 use Rattle.pv_path.proofs.Tests.{true_not_false}

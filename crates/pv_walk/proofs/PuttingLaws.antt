@@ -8,7 +8,7 @@ use Rattle.pv_steps.specs.Objects.{modified}
 use Rattle.pv_steps.specs.Trees.{Places, IsTreeIn, IsAbsentIn}
 use Rattle.pv_steps.proofs.TreeLaws.{not_absent, present_above}
 use Rattle.pv_steps.specs.Steps.{made}
-use Rattle.pv_metadata.proofs.EditLaws.{put_at-else}
+use Rattle.pv_walk.proofs.EditLaws.{put_at-else}
 
 -- ---- where nothing stands
 

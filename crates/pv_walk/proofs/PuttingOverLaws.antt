@@ -16,9 +16,9 @@ use Rattle.pv_steps.specs.declared.tree.Tree.{Ghosts}
 use Rattle.pv_steps.specs.declared.tree.TreeFault.{TreeFault}
 use Rattle.pv_steps.specs.Acting.{Acted}
 use Rattle.pv_steps.proofs.ActingLaws.{Moves, acted_then, acted_weaken, acted_end}
-use Rattle.pv_metadata.specs.Edits.{SameOutside, cut, count_at}
-use Rattle.pv_metadata.specs.Nodes.{object_state_of}
-use Rattle.pv_metadata.proofs.EditLaws.{path_cases, put_at-else, put_at-here, object_states-made, object_states-put_else, staging_outside}
+use Rattle.pv_walk.specs.Edits.{SameOutside, cut, count_at}
+use Rattle.pv_walk.specs.Nodes.{object_state_of}
+use Rattle.pv_walk.proofs.EditLaws.{path_cases, put_at-else, put_at-here, object_states-made, object_states-put_else, staging_outside}
 use Rattle.pv_walk.specs.declared.new_file.NewFile.{NewFile}
 use Rattle.pv_walk.specs.Staging.{new_object, GivesNew, IsPublishing}
 use Rattle.pv_walk.specs.Removal.{Publishing}

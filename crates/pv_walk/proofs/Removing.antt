@@ -16,7 +16,7 @@ use Rattle.pv_steps.specs.declared.tree.Tree.{Ghosts}
 use Rattle.pv_steps.specs.declared.tree.TreeFault.{TreeFault}
 use Rattle.pv_steps.specs.Acting.{Acted}
 use Rattle.pv_steps.proofs.ActingLaws.{Moves, Asks, acted_then, acted_weaken, acted_end}
-use Rattle.pv_metadata.specs.Edits.{Pruned}
+use Rattle.pv_walk.specs.Edits.{Pruned}
 use Rattle.pv_steps.specs.Content.{Removes}
 use Rattle.pv_steps.proofs.ContentLaws.{removes-wider}
 use Rattle.pv_walk.specs.Removal.{is_below, removal, removal_at, MayHaveGone}

@@ -11,7 +11,7 @@ use Rattle.pv_steps.specs.Steps.{IsOther, Yields, absent, objects, directories}
 use Rattle.pv_steps.specs.Trees.{Files, Places, places, kind_of, IsKindIn, IsEmptyIn, IsKind, IsPresent, IsTree}
 use Rattle.pv_steps.proofs.ObjectLaws.{is_some-same}
 use Rattle.pv_steps.proofs.TreeLaws.{not_absent}
-use Rattle.pv_metadata.specs.Edits.{Pruned}
+use Rattle.pv_walk.specs.Edits.{Pruned}
 use Rattle.pv_walk.specs.Removal.{is_below, Clearing}
 use Rattle.pv_walk.proofs.PuttingLaws.{none_below}
 use Rattle.pv_walk.proofs.RemovalLaws.{below_parts, not_below_itself}

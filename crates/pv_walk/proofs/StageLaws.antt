@@ -22,13 +22,13 @@ use Rattle.pv_steps.proofs.StepLaws.{at_after}
 use Rattle.pv_steps.specs.Same.{object_states, Differ}
 use Rattle.pv_steps.specs.Runs.{IsNotIdle}
 use Rattle.pv_steps.proofs.ActingLaws.{Asks}
-use Rattle.pv_metadata.specs.Edits.{SameOutside}
-use Rattle.pv_metadata.specs.SettingMetadata.{with_metadata, with_first_changes, SettingMetadata}
-use Rattle.pv_metadata.specs.declared.object_state.ObjectState.{ObjectState}
-use Rattle.pv_metadata.specs.declared.object_state.Metadata.{Metadata}
-use Rattle.pv_metadata.specs.Nodes.{object_state_of, object_states_of}
-use Rattle.pv_metadata.proofs.OperationLaws.{object_state-same, object_states_of-same}
-use Rattle.pv_metadata.proofs.EditLaws.{on_at-here, on_at-else, made-here, on_at-made, object_states-made, object_states-put_else}
+use Rattle.pv_walk.specs.Edits.{SameOutside}
+use Rattle.pv_walk.specs.SettingMetadata.{with_metadata, with_first_changes, SettingMetadata}
+use Rattle.pv_walk.specs.declared.object_state.ObjectState.{ObjectState}
+use Rattle.pv_walk.specs.declared.object_state.Metadata.{Metadata}
+use Rattle.pv_walk.specs.Nodes.{object_state_of, object_states_of}
+use Rattle.pv_walk.proofs.OperationLaws.{object_state-same, object_states_of-same}
+use Rattle.pv_walk.proofs.EditLaws.{on_at-here, on_at-else, made-here, on_at-made, object_states-made, object_states-put_else}
 use Rattle.pv_walk.specs.declared.new_file.NewFile.{NewFile}
 use Rattle.pv_walk.specs.declared.new_file.NewKind.{NewKind}
 use Rattle.pv_walk.specs.declared.new_file.NewKind.TheVariants as new

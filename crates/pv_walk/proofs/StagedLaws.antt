@@ -10,10 +10,10 @@ use Rattle.pv_steps.specs.Acting.{Acted}
 use Rattle.pv_steps.specs.Steps.{moved}
 use Rattle.pv_steps.specs.Trees.{Files, places, IsAbsentIn, IsTree}
 use Rattle.pv_steps.proofs.ActingLaws.{Moves, acted_then, acted_weaken, acted_within, acted_end}
-use Rattle.pv_metadata.specs.declared.object_state.ObjectState.{ObjectState}
-use Rattle.pv_metadata.specs.Nodes.{object_state_of, object_states_of}
-use Rattle.pv_metadata.proofs.EditLaws.{moved_away}
-use Rattle.pv_metadata.proofs.OperationLaws.{object_states_of-same}
+use Rattle.pv_walk.specs.declared.object_state.ObjectState.{ObjectState}
+use Rattle.pv_walk.specs.Nodes.{object_state_of, object_states_of}
+use Rattle.pv_walk.proofs.EditLaws.{moved_away}
+use Rattle.pv_walk.proofs.OperationLaws.{object_states_of-same}
 use Rattle.pv_walk.specs.Copying.{Subtree}
 use Rattle.pv_walk.specs.Removal.{Publishing}
 use Rattle.pv_walk.specs.Stages.{IsAtStage, AreFilledFirst, InStages, Staging, standing_at}

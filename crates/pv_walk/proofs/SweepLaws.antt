@@ -16,7 +16,7 @@ use Rattle.pv_path.proofs.PathLaws.{is_prefix-refl, last_name-push, path_parts}
 use Rattle.pv_steps.specs.declared.object.Object.{Object}
 use Rattle.pv_steps.specs.Objects.{object_state}
 use Rattle.pv_steps.specs.Trees.{Files, Places, places, IsPresent}
-use Rattle.pv_metadata.specs.Edits.{taken, all_taken, count_at, Pruned}
+use Rattle.pv_walk.specs.Edits.{taken, all_taken, count_at, Pruned}
 use Rattle.pv_walk.specs.Staging.{prefixes, can_stage, staging_names, is_under_any, count_at_all}
 use Rattle.pv_walk.specs.Removal.{is_below, count_below}
 use Rattle.pv_walk.specs.Listing.{times, stands_below}

@@ -19,7 +19,7 @@ use Rattle.pv_steps.proofs.RunLaws.{after_all-append}
 use Rattle.pv_steps.proofs.ActingLaws.{Asks}
 use Rattle.pv_steps.proofs.TryingLaws.{AllAsk, ask_first, reverse-first}
 use Rattle.pv_steps.proofs.ContentLaws.{removes-wider}
-use Rattle.pv_metadata.specs.Edits.{Pruned}
+use Rattle.pv_walk.specs.Edits.{Pruned}
 use Rattle.pv_walk.specs.Removal.{is_below, is_one_of, loses_child, removal_at, without, DonePart, MayHaveGone}
 use Rattle.pv_walk.specs.Listing.{times, children_of, stands_below, IsListing, AreRemovable}
 use Rattle.pv_walk.proofs.CountLaws.{times-self, same_or_not, is_child-push}

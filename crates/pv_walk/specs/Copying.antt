@@ -3,10 +3,10 @@
 use Rattle.std.specs.Prelude.{◌≡◌, ◌≢◌, ◌⊎◌, ℕ, ◌≤◌, false, [], ◌∷◌, ◌++◌, length, filter, filter_map, Option, Some, None, IfSome, is_some, option_map, unwrap_or, if◌then◌else◌}
 use Rattle.std.specs.FinMap as fin
 use Rattle.pv_acl.specs.Parts.{acl_of_mode}
-use Rattle.pv_metadata.specs.declared.object_state.ObjectState.{ObjectState}
-use Rattle.pv_metadata.specs.SettingMetadata.{metadata_mode}
-use Rattle.pv_metadata.specs.Nodes.{is_link}
-use Rattle.pv_metadata.specs.Operations.{with_mode}
+use Rattle.pv_walk.specs.declared.object_state.ObjectState.{ObjectState}
+use Rattle.pv_walk.specs.SettingMetadata.{metadata_mode}
+use Rattle.pv_walk.specs.Nodes.{is_link}
+use Rattle.pv_walk.specs.Operations.{with_mode}
 use Rattle.pv_path.specs.Paths.{Path, rest_under, has_staging, staging_of}
 use Rattle.pv_steps.specs.declared.node.Kind.TheVariants.{Directory, File, Link, Fifo}
 use Rattle.pv_steps.specs.declared.node.Stamps.{Stamps}

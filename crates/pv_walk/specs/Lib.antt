@@ -1,3 +1,11 @@
+pub mod Edits
+pub mod SettingMetadata
+pub mod Changing
+pub mod Nodes
+pub mod Masks
+pub mod Operations
+pub mod Reasons
+pub mod Dividing
 pub mod Walking
 pub mod Staging
 pub mod Seeing
@@ -10,3 +18,5 @@ pub mod Copying
 pub mod Replacing
 pub mod Pieces
 pub mod Stages
+pub mod Finding
+pub mod Whole

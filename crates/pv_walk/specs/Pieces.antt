@@ -1,10 +1,10 @@
 -- The pieces of work of which a copy is made: each object is made with what it holds, and gets its metadata once all
 -- below it is there (mkdir(2), mknod(2), symlink(2), chown(2), chmod(2)).
 use Rattle.std.specs.Prelude.{◌≡◌, ◌≢◌, ◌⊎◌, ℕ, ◌+◌, true, false, List, [], ◌∷◌, ◌++◌, map, Option, Some, None, is_some, option_map, if◌then◌else◌}
-use Rattle.pv_metadata.specs.declared.object_state.ObjectState.{ObjectState}
-use Rattle.pv_metadata.specs.declared.object_state.Body.{Body}
-use Rattle.pv_metadata.specs.SettingMetadata.{IsMetadata, CanSetMetadata, ChangedAt, SettingMetadata, GivesMetadata, with_metadata}
-use Rattle.pv_metadata.specs.Nodes.{object_state_of}
+use Rattle.pv_walk.specs.declared.object_state.ObjectState.{ObjectState}
+use Rattle.pv_walk.specs.declared.object_state.Body.{Body}
+use Rattle.pv_walk.specs.SettingMetadata.{IsMetadata, CanSetMetadata, ChangedAt, SettingMetadata, GivesMetadata, with_metadata}
+use Rattle.pv_walk.specs.Nodes.{object_state_of}
 use Rattle.pv_path.specs.Paths.{Path, same_path, parent_of}
 use Rattle.pv_steps.specs.declared.node.Kind.{Kind}
 use Rattle.pv_steps.specs.declared.node.Kind.TheVariants.{Directory, File, Link, Fifo, CharDevice, BlockDevice}

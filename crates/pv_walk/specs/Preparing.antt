@@ -9,7 +9,7 @@ use Rattle.pv_steps.specs.Trees.{Files, Places, places, IsPresent, IsKind, IsAbs
 use Rattle.pv_steps.specs.Steps.{made}
 use Rattle.pv_steps.specs.Same.{object_states}
 use Rattle.pv_steps.specs.Content.{Removes}
-use Rattle.pv_metadata.specs.Edits.{all_taken}
+use Rattle.pv_walk.specs.Edits.{all_taken}
 use Rattle.pv_walk.specs.declared.new_file.NewFile.{NewFile}
 use Rattle.pv_walk.specs.declared.new_file.NewKind.TheVariants as new
 use Rattle.pv_walk.specs.Staging.{prefixes, staging_names, is_under_any, new_object}

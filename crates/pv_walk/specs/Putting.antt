@@ -7,7 +7,7 @@ use Rattle.pv_steps.specs.Objects.{object_state}
 use Rattle.pv_steps.specs.Trees.{Files, Places, places}
 use Rattle.pv_steps.specs.Steps.{made}
 use Rattle.pv_steps.specs.Same.{object_states}
-use Rattle.pv_metadata.specs.Edits.{cut}
+use Rattle.pv_walk.specs.Edits.{cut}
 use Rattle.pv_walk.specs.declared.new_file.NewFile.{NewFile}
 use Rattle.pv_walk.specs.Staging.{new_object, GivesNew, IsPublishing}
 

@@ -13,7 +13,7 @@ use Rattle.pv_steps.specs.declared.node.Kind.TheVariants.{Directory}
 use Rattle.pv_steps.specs.Trees.{Files, Places, places, kind_of, names_below, IsKind}
 use Rattle.pv_steps.specs.Steps.{Yields, gone, moved}
 use Rattle.pv_steps.specs.Same.{object_states}
-use Rattle.pv_metadata.specs.Edits.{Pruned}
+use Rattle.pv_walk.specs.Edits.{Pruned}
 
 -- whether the second path lies below the first
 abbrev pub is_below : Path → Path → Bool

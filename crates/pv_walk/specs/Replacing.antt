@@ -1,8 +1,8 @@
 -- A subtree put at a path where something may stand: it stands whole at the staging name before anything of that goes, and what
 -- one Rename can replace is there until it comes (rename(2)).
 use Rattle.std.specs.Prelude.{◌≡◌, ◌⊎◌, true, false, [], ◌++◌, Some, option_map}
-use Rattle.pv_metadata.specs.declared.object_state.ObjectState.{ObjectState}
-use Rattle.pv_metadata.specs.Nodes.{object_state_of, object_states_of}
+use Rattle.pv_walk.specs.declared.object_state.ObjectState.{ObjectState}
+use Rattle.pv_walk.specs.Nodes.{object_state_of, object_states_of}
 use Rattle.pv_path.specs.Paths.{Path, is_prefix, has_staging, staging_of}
 use Rattle.pv_steps.specs.declared.node.Kind.TheVariants.{Directory}
 use Rattle.pv_steps.specs.Same.{Same, object_states}

@@ -2,10 +2,10 @@
 -- owners, its mode, its ACL, its extended attributes and its letters, in this order: no object is given its mode while it has other
 -- owners, and chown(2) would take set-user-ID bits away (write(2) does so, too).
 use Rattle.std.specs.Prelude.{◌≡◌, ◌⊎◌, ℕ, ◌++◌, Option, Some, None}
-use Rattle.pv_metadata.specs.declared.object_state.ObjectState.{ObjectState}
-use Rattle.pv_metadata.specs.SettingMetadata.{with_first_changes}
-use Rattle.pv_metadata.specs.Edits.{SameOutside}
-use Rattle.pv_metadata.specs.Nodes.{object_state_of, object_states_of}
+use Rattle.pv_walk.specs.declared.object_state.ObjectState.{ObjectState}
+use Rattle.pv_walk.specs.SettingMetadata.{with_first_changes}
+use Rattle.pv_walk.specs.Edits.{SameOutside}
+use Rattle.pv_walk.specs.Nodes.{object_state_of, object_states_of}
 use Rattle.pv_path.specs.Paths.{Path, is_prefix}
 use Rattle.pv_steps.specs.declared.node.Kind.TheVariants.{Directory}
 use Rattle.pv_steps.specs.Trees.{Files, places}

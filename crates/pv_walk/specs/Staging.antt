@@ -10,7 +10,7 @@ use Rattle.pv_steps.specs.declared.step.Step.TheVariants.{MakeDir, MakeFile, Mak
 use Rattle.pv_steps.specs.Objects.{fresh, IsId, IsTarget}
 use Rattle.pv_steps.specs.Steps.{device_kind}
 use Rattle.pv_steps.specs.Trees.{Files}
-use Rattle.pv_metadata.specs.Edits.{count_at}
+use Rattle.pv_walk.specs.Edits.{count_at}
 use Rattle.pv_walk.specs.declared.new_file.NewFile.{NewFile}
 use Rattle.pv_walk.specs.declared.new_file.NewKind.{NewKind}
 use Rattle.pv_walk.specs.declared.new_file.NewKind.TheVariants as new

@@ -1,7 +1,7 @@
 //! Copies of all that stands at and below a path.
 ghost use Rattle.std.specs.Prelude.{◌≡◌, ◌≢◌, ◌+◌, ◌*◌, [], true, false, OnOk};
-ghost use Rattle.pv_metadata.specs.Edits.{count_at};
-ghost use Rattle.pv_metadata.specs.Nodes.{object_states_of};
+ghost use Rattle.pv_walk.specs.Edits.{count_at};
+ghost use Rattle.pv_walk.specs.Nodes.{object_states_of};
 ghost use Rattle.pv_path.specs.Paths.{parent_of, has_staging, staging_of};
 ghost use Rattle.pv_steps.specs.declared.node.Kind.TheVariants.{Directory};
 ghost use Rattle.pv_steps.specs.Acting.{Acted};

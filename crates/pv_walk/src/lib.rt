@@ -1,26 +1,53 @@
-//! Walking along paths, and staging: new objects are made under staging names and come to their paths in one step.
+//! Work on one object of a tree and on what stands below it: walking along a path, staging (a new object is made under a
+//! staging name and is renamed to its path in one step), metadata (owner, mode, ACL, extended attributes and file
+//! attribute flags), removing, and finding.
 #![tactic(auto)]
 
 mod copying;
+mod laws;
+mod listed_below;
 mod listing;
+mod mask;
+mod matching;
 mod new_file;
+mod object_state;
+mod operation;
+mod order;
 mod preparing;
 mod publishing;
 mod put;
 mod remove;
+mod run;
+mod setting_metadata;
 mod stage;
 mod subtree;
 mod sweeping;
 mod walking;
+mod whole_subtrees;
 
 pub use copying::{TopNode, copy_over, stage_copy};
+pub use laws::{
+    a_first_renewal_absorbs_what_was_there, a_list_with_an_erasure_leaves_the_same,
+    a_mask_takes_nothing_from_a_part_with_its_mode, a_mask_takes_nothing_from_its_own_mode,
+    an_erasure_without_a_make_leaves_nothing, first_operations_are_absorbed,
+    objects_are_compared_without_stamps, operations_do_the_same_in_parts,
+};
+pub use listed_below::{add_standing, at_and_below};
 pub use listing::topped;
+pub use mask::{masked_special, set_masked_base};
+pub use matching::matching_paths;
 pub use new_file::{NewFile, NewKind, new_object_state};
+pub use object_state::{Body, Metadata, ObjectState};
+pub use operation::{Change, Guard, Operation, Test};
+pub use order::in_order;
 pub use preparing::prepare;
 pub use publishing::publish;
 pub use put::{put_over, stage_file};
 pub use pv_steps::Why;
 pub use remove::{below, removal, remove_all, remove_below};
+pub use run::{admits, run_operations, stays};
+pub use setting_metadata::set_metadata;
 pub use stage::put_held;
 pub use sweeping::sweep;
 pub use walking::{Walked, refusal_of, unsafe_component, walk};
+pub use whole_subtrees::{deepest_last, is_among, whole_of};

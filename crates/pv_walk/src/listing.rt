@@ -1,6 +1,6 @@
 //! What there is to copy, listed in pieces of work before the first of them is done.
 ghost use Rattle.std.specs.Prelude.{◌≡◌, ◌≤◌, ◌*◌, ◌++◌, ◌∷◌, [], map, Some, IfOk, OnOk};
-ghost use Rattle.pv_metadata.specs.Nodes.{object_states_of};
+ghost use Rattle.pv_walk.specs.Nodes.{object_states_of};
 ghost use Rattle.pv_steps.specs.Trees.{places, node_at, payload_at, IsTree};
 ghost use Rattle.pv_walk.specs.Copying.{copy_from, copied_count, topped, IsTopNode};
 ghost use Rattle.pv_walk.specs.Pieces.{IsPlan, made_of, cost_of, what_of, names_at, pieces_now, tasks_left};
@@ -10,7 +10,7 @@ ghost use Rattle.pv_walk.specs.declared.listing.Task.TheVariants.{Open, Close};
 
 use crate::copying::TopNode;
 use crate::new_file::NewKind;
-use pv_metadata::{Body, Metadata, ObjectState};
+use crate::object_state::{Body, Metadata, ObjectState};
 use pv_path::{TreePath, child, has_staging};
 use pv_steps::{Kind, Node, Tree, is_directory, special_bits};
 use std::alloc::{AllocError, Global};

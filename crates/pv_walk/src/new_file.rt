@@ -1,11 +1,11 @@
 //! New objects, as a caller asks for them.
 ghost use Rattle.std.specs.Prelude.{◌≡◌, IfOk};
-ghost use Rattle.pv_metadata.specs.Nodes.{object_state_of};
+ghost use Rattle.pv_walk.specs.Nodes.{object_state_of};
 ghost use Rattle.pv_walk.specs.Making.{new_metadata};
 ghost use Rattle.pv_walk.specs.Staging.{new_kind, new_payload, new_major, new_minor, new_mode, new_object};
 
+use crate::object_state::{Body, Metadata, ObjectState};
 use pv_acl::Acl;
-use pv_metadata::{Body, Metadata, ObjectState};
 use pv_path::Bytes;
 use pv_steps::{AttrList, Kind, LetterSet, special_bits};
 use std::alloc::{AllocError, Global};

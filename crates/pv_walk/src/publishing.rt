@@ -4,7 +4,7 @@ ghost use Rattle.pv_path.specs.Paths.{is_prefix, staging_of};
 ghost use Rattle.pv_steps.specs.Trees.{places, IsPresent, IsTree};
 ghost use Rattle.pv_steps.specs.Steps.{Movable, Yields, moved};
 ghost use Rattle.pv_steps.specs.Content.{Removes};
-ghost use Rattle.pv_metadata.specs.Edits.{count_at};
+ghost use Rattle.pv_walk.specs.Edits.{count_at};
 ghost use Rattle.pv_steps.specs.Acting.{Acted};
 ghost use Rattle.pv_walk.specs.Staging.{IsPublishing, can_stage};
 ghost use Rattle.pv_walk.specs.Removal.{Clearing, Publishing, MayHaveMoved};

@@ -4,7 +4,7 @@ ghost use Rattle.pv_path.specs.Paths.{parent_of, has_staging, staging_of};
 ghost use Rattle.pv_steps.specs.declared.node.Kind.TheVariants.{Directory};
 ghost use Rattle.pv_steps.specs.Trees.{places, IsKind, IsAbsentIn};
 ghost use Rattle.pv_steps.specs.Steps.{made};
-ghost use Rattle.pv_metadata.specs.Edits.{count_at};
+ghost use Rattle.pv_walk.specs.Edits.{count_at};
 ghost use Rattle.pv_steps.specs.Acting.{Acted};
 ghost use Rattle.pv_walk.specs.declared.listing.Piece.TheVariants.{Make, Give};
 ghost use Rattle.pv_walk.specs.Making.{new_metadata};

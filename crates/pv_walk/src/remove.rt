@@ -5,7 +5,7 @@ ghost use Rattle.pv_steps.specs.Trees.{places, IsPresent, IsEmptyIn, IsTree};
 ghost use Rattle.pv_steps.specs.Steps.{gone};
 ghost use Rattle.pv_steps.specs.Objects.{modified};
 ghost use Rattle.pv_steps.specs.Content.{Removes};
-ghost use Rattle.pv_metadata.specs.Edits.{Pruned, emptied};
+ghost use Rattle.pv_walk.specs.Edits.{Pruned, emptied};
 ghost use Rattle.pv_steps.specs.Acting.{Acted};
 ghost use Rattle.pv_walk.specs.Removal.{is_below, is_one_of, without, count_below, removal_at, DonePart, MayHaveGone};
 ghost use Rattle.pv_walk.specs.Listing.{children_of, IsListing, AreGathered, AreRemovable};

@@ -4,7 +4,7 @@ ghost use Rattle.pv_path.specs.Paths.{is_prefix};
 ghost use Rattle.pv_steps.specs.declared.step.Step.TheVariants.{Write};
 ghost use Rattle.pv_steps.specs.Trees.{places};
 ghost use Rattle.pv_steps.specs.Steps.{HasRoom, made};
-ghost use Rattle.pv_metadata.specs.Edits.{SameOutside};
+ghost use Rattle.pv_walk.specs.Edits.{SameOutside};
 ghost use Rattle.pv_steps.specs.Acting.{Acted};
 ghost use Rattle.pv_walk.specs.Staging.{HasTarget, IsNewFile, GivesNew};
 ghost use Rattle.pv_walk.specs.Making.{make_step, content_of, held_object, Beginning, BeginsNew};

@@ -1,6 +1,6 @@
 //! Subtrees of new objects, put at paths: made under a staging name, they come to their path in one step.
 ghost use Rattle.std.specs.Prelude.{◌≡◌, ◌≢◌, ◌+◌, [], true, is_some, OnOk};
-ghost use Rattle.pv_metadata.specs.Edits.{count_at};
+ghost use Rattle.pv_walk.specs.Edits.{count_at};
 ghost use Rattle.pv_path.specs.Paths.{parent_of, staging_of};
 ghost use Rattle.pv_steps.specs.declared.node.Kind.TheVariants.{Directory};
 ghost use Rattle.pv_steps.specs.Acting.{Acted};
@@ -13,8 +13,8 @@ ghost use Rattle.pv_walk.specs.Staging.{can_stage};
 
 use crate::listing::Piece;
 use crate::publishing::publish;
+use crate::setting_metadata::set_metadata;
 use crate::stage::begin;
-use pv_metadata::set_metadata;
 use pv_path::{TreePath, staging};
 use pv_steps::{Tree, TreeFault};
 use std::alloc::Global;

@@ -3,7 +3,7 @@ ghost use Rattle.std.specs.Prelude.{◌≡◌, ◌≢◌, ◌≤◌, ℕ, List, 
 ghost use Rattle.pv_path.specs.Paths.{is_prefix, last_name, staging_of};
 ghost use Rattle.pv_steps.specs.Trees.{places};
 ghost use Rattle.pv_steps.specs.Content.{Removes};
-ghost use Rattle.pv_metadata.specs.Edits.{Pruned, taken, all_taken, count_at};
+ghost use Rattle.pv_walk.specs.Edits.{Pruned, taken, all_taken, count_at};
 ghost use Rattle.pv_steps.specs.Acting.{Acted};
 ghost use Rattle.pv_walk.specs.Staging.{staging_names, is_under_any, count_at_all, can_stage};
 

@@ -1,6 +1,6 @@
 //! Hosts in memory as texts: what one has in the folder `/r`.
 use base64::engine::general_purpose::STANDARD;
-use pv_host::MemHost;
+use pv_folder::MemHost;
 use pv_image::{read_image, write_image};
 use pv_text::Facts;
 use pv_tree::MemTree;

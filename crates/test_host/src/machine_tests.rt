@@ -1,5 +1,5 @@
 //! One test in a folder of its own below the machine's temporary one.
-use pv_host::{Host, HostKind, RealHost};
+use pv_folder::{Host, HostKind, RealHost};
 use std::test::Fail;
 use std::{env, fs};
 

@@ -1,6 +1,5 @@
 //! Folders of a host in memory, opened; what they are is written out by hand.
-use pv_folder::{OpenFault, read_folder};
-use pv_host::MemHost;
+use pv_folder::{MemHost, OpenFault, read_folder};
 use pv_image::{Image, read_image, write_image};
 use std::alloc::Global;
 use std::test::Fail;

@@ -1,6 +1,6 @@
 //! Runs on folders of the machine, in the folder in which the tests run; what they leave is written out by hand.
 use provision_run::{provision_all, status};
-use pv_host::RealHost;
+use pv_folder::RealHost;
 use pv_io::{MemSink, MemSource};
 use std::fs;
 use std::test::Fail;

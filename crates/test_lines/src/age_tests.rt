@@ -1,7 +1,8 @@
 //! Rows of ages and of what is old.
 use bitflags::Flags;
-use pv_age::{Age, AgeFault, StampSet, is_old, parse_age};
+use pv_age::{Age, AgeFault, StampSet, parse_age};
 use pv_steps::{Kind, Stamps};
+use pv_table::is_old;
 use std::alloc::{AllocError, Global};
 use std::test::Fail;
 use test_sheet::plain_node;

@@ -2,12 +2,12 @@
 use crate::lines::table_of;
 use crate::standings::{standing_of, text_of};
 use crate::things::{Thing, is_refused};
+use pv_explain::{Standing, after_line};
 use pv_lines::{Argument, Line, LinePath};
-use pv_metadata::ObjectState;
 use pv_path::{Name, TreePath, is_prefix};
-use pv_pointwise::{Standing, after_line};
 use pv_steps::Node;
 use pv_table::{Table, create_order, names};
+use pv_walk::ObjectState;
 use std::alloc::{AllocError, Global};
 use std::process::Abort;
 use std::test::Fail;

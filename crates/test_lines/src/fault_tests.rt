@@ -1,5 +1,5 @@
 //! What is printed of a fault: its name alone.
-use pv_host::HostFault;
+use pv_folder::HostFault;
 use pv_image::ImageFault;
 use pv_tree::BuildFault;
 use pv_words::WordsFault;

@@ -1,8 +1,8 @@
 //! Rows of objects without timestamps.
 use crate::standings::object_state_text;
 use pv_acl::{Acl, read_acl};
-use pv_metadata::ObjectState;
 use pv_steps::Kind;
+use pv_walk::ObjectState;
 use std::alloc::{AllocError, Global};
 use std::process::Abort;
 use std::test::Fail;

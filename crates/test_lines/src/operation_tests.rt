@@ -1,9 +1,9 @@
 //! Rows of operations on one object.
 use crate::lines::Nobody;
 use pv_acl::{Acl, How, parse_acl, print_acl};
-use pv_metadata::{Change, Guard, ObjectState, Operation, Test, run_operations};
 use pv_path::Bytes;
 use pv_steps::{Kind, LetterHow, special_bits};
+use pv_walk::{Change, Guard, ObjectState, Operation, Test, run_operations};
 use std::alloc::{AllocError, Global};
 use std::test::Fail;
 use test_sheet::{attrs_of, letters_of, plain_node};

@@ -1,11 +1,10 @@
 //! Plain programs of what goes in the phases remove and clean, as the manual has it, with small trees.
 use crate::lines::table_of;
 use crate::things::{Thing, at, is_refused};
-use pv_age::is_old;
 use pv_lines::Line;
 use pv_path::{Name, TreePath, is_prefix, parent, parse_path, print_path};
 use pv_steps::{Kind, Node, Stamps};
-use pv_table::{Table, names, names_first, scope_of};
+use pv_table::{Table, is_old, names, names_first, scope_of};
 use std::alloc::{AllocError, Global};
 use std::process::Abort;
 use std::test::Fail;

@@ -1,7 +1,7 @@
 //! Rows of what lines leave at each path: configurations with the objects before and after, in their order.
 use crate::lines::table_of;
 use crate::standings::{standing_of, text_of};
-use pv_pointwise::state_after;
+use pv_explain::state_after;
 use std::alloc::Global;
 use std::process::Abort;
 use std::test::Fail;

@@ -1,7 +1,7 @@
 //! Rows of reports: lines of a configuration with what is said of them.
 use crate::lines::{add_messages, lines_of};
 use pv_lines::LineList;
-use pv_report::{report, say_report};
+use pv_overlap::{report, say_report};
 use pv_text::Messages;
 use std::alloc::{AllocError, Global};
 use std::test::Fail;

@@ -1,9 +1,9 @@
 //! What stands at paths, from a text and as a text: a line for each object.
 use pv_acl::{print_acl, read_acl};
-use pv_metadata::ObjectState;
+use pv_explain::Standing;
 use pv_path::{TreePath, child, is_name, print_path};
-use pv_pointwise::Standing;
 use pv_steps::Node;
+use pv_walk::ObjectState;
 use std::alloc::{AllocError, Global};
 use std::process::Abort;
 use std::test::Fail;

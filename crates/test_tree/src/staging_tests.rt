@@ -9,13 +9,13 @@ ghost use Rattle.pv_walk.specs.Staging.{HasTarget, IsNewFile, can_stage};
 use crate::metadata_tests::acl_of;
 use crate::step_rows::path_of;
 use pv_image::{read_image, write_image};
-use pv_metadata::{Metadata, set_metadata};
 use pv_path::{Bytes, Name, TreePath, parent, staging};
 use pv_steps::{AttrList, Kind, LetterSet, Tree, Why, is_target};
 use pv_text::Facts;
 use pv_tree::{Fused, MemTree};
 use pv_walk::{
-    NewFile, NewKind, TopNode, Walked, publish, remove_below, stage_copy, stage_file, sweep, walk,
+    Metadata, NewFile, NewKind, TopNode, Walked, publish, remove_below, set_metadata, stage_copy,
+    stage_file, sweep, walk,
 };
 use std::alloc::{AllocError, Global};
 use std::process::Abort;

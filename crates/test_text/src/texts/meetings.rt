@@ -3,8 +3,10 @@ ghost use Rattle.std.specs.Prelude.{◌≡◌, ℕ, List, [], true, false, slice
 ghost use Rattle.pv_overlap.specs.Heads.{related};
 
 use crate::marks::{Arguments, new_messages, number_in, unread};
-use pv_glob::{Pattern, PatternFault, Plain, literal, matches, parse_pattern};
-use pv_meet::{PairMachine, Reach, least_word, meet};
+use pv_glob::{
+    PairMachine, Pattern, PatternFault, Plain, Reach, least_word, literal, matches, meet,
+    parse_pattern,
+};
 use pv_overlap::{Asker, Pair, PairList, head, pairs_by};
 use pv_path::{PathList, TreePath, child, has_staging, is_name, parse_path, print_path};
 use std::alloc::{AllocError, Global};

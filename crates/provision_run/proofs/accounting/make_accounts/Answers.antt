@@ -1,9 +1,9 @@
 use Rattle.std.proofs.Common.{List, drop, inl, length, refl, subst}
-use Rattle.pv_accounts_run.specs.Accounted.{edits_at}
-use Rattle.pv_accounts_run.specs.FileWriting.{AccountWay, IsAccountStep}
-use Rattle.pv_accounts_run.proofs.MendedLaws.{none_mended, run_mended}
-use Rattle.pv_accounts_run.proofs.SweptLaws.{accounts_leave_none}
-use Rattle.pv_metadata.proofs.EditLaws.{same-refl}
+use Rattle.pv_sysusers.specs.Accounted.{edits_at}
+use Rattle.pv_sysusers.specs.FileWriting.{AccountWay, IsAccountStep}
+use Rattle.pv_sysusers.proofs.MendedLaws.{none_mended, run_mended}
+use Rattle.pv_sysusers.proofs.SweptLaws.{accounts_leave_none}
+use Rattle.pv_walk.proofs.EditLaws.{same-refl}
 use Rattle.pv_requests.specs.declared.request.Request.{Request}
 use Rattle.pv_steps.specs.Runs.{Ran}
 use Rattle.pv_steps.specs.Trees.{places}

@@ -1,24 +1,24 @@
 use Rattle.std.specs.Prelude.{Result, IsErrOf}
 use Rattle.std.proofs.Common.{◌≡◌, ◌++◌, ◌∙◌, ℕ, List, Ok, ap, drop, length, refl, subst}
 use Rattle.pv_read_config.specs.Known.{configured}
-use Rattle.pv_doing.specs.Courses.{Cut, HasGone, Partway, IsStepOfSome, carried_of}
+use Rattle.pv_steps.specs.Courses.{Cut, HasGone, Partway, IsStepOfSome, carried_of}
 use Rattle.pv_lines.specs.declared.line.Line.{Line}
-use Rattle.pv_doing.specs.declared.carried.Carried.{Carried}
+use Rattle.pv_steps.specs.declared.carried.Carried.{Carried}
 use Rattle.pv_steps.specs.Acting.{refused, Acted}
 use Rattle.pv_steps.specs.declared.tree.TreeFault.{TreeFault}
 use Rattle.pv_steps.specs.declared.tree.TreeFault.TheVariants.{Failed}
 use Rattle.pv_steps.proofs.ActingLaws.{Moves, no_memory, acted_ended, acted_none, acted_passed}
-use Rattle.pv_table.specs.Created.{after_each, messages_for_each, one_is_refused, taken_by_each}
+use Rattle.pv_steps.specs.Doing.{after_each, messages_for_each, one_is_refused, taken_by_each}
 use Rattle.pv_text.specs.GivenMessages.{MessagesPart}
-use Rattle.pv_phases.specs.OnTheWay.{GiveBy, IsBetweenBy}
-use Rattle.pv_phases.specs.Phases.{IsMendedBy, phases_course, phases_of}
-use Rattle.pv_phases.specs.Swept.{IsSweptBy}
+use Rattle.provision_run.specs.PhasesOnTheWay.{GiveBy, IsBetweenBy}
+use Rattle.provision_run.specs.Phases.{IsMendedBy, phases_course, phases_of}
+use Rattle.provision_run.specs.PhasesSwept.{IsSweptBy}
 use Rattle.pv_create.specs.OnTheWay.{IsFramed}
-use Rattle.pv_phases.specs.declared.phase.Phase.{Phase}
+use Rattle.provision_run.specs.declared.phase.Phase.{Phase}
 use Rattle.provision_run.specs.Ending.{end_of, is_uncarried}
 use Rattle.provision_run.specs.Phased.{run_lines, phases_way, is_phases_step, lines_messages, phase_messages, phases_work}
-use Rattle.pv_phases.proofs.PhaseLaws.{both, failed_before, none_mended}
-use Rattle.pv_phases.proofs.WayLaws.{none_between, none_give}
+use Rattle.provision_run.proofs.PhaseLaws.{both, failed_before, none_mended}
+use Rattle.provision_run.proofs.WayLaws.{none_between, none_give}
 use Rattle.provision_run.proofs.FrameLaws.{none_stays}
 use Rattle.provision_run.proofs.RereadingLaws.{mended_anew, nothing_reread, run_anew, run_reread}
 use Rattle.provision_run.proofs.RunLaws.{way_start}

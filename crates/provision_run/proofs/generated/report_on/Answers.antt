@@ -1,6 +1,6 @@
 use Rattle.std.proofs.Common.{◌≡◌, ◌∙◌, ◌↔◌, [], IfOk, List, subst}
 use Rattle.pv_lines.specs.declared.line.Line.{Line}
-use Rattle.pv_report.specs.Reporting.{ListsOverlaps, ListsReasons}
+use Rattle.pv_overlap.specs.Reporting.{ListsOverlaps, ListsReasons}
 use Rattle.pv_table.specs.Repeatable.{IsRepeatable}
 use Rattle.provision_run.proofs.GeneratedLaws.{read_lines}
 use Rattle.provision_run.proofs.ReportLaws.{few_lines}

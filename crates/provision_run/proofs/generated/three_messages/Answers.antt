@@ -1,5 +1,5 @@
 use Rattle.std.proofs.Common.{ap, List, ℕ, ◌++◌, length, ◌∙◌}
-use Rattle.pv_report.specs.GivenMessages.{verdict}
+use Rattle.pv_overlap.specs.GivenMessages.{verdict}
 use Rattle.provision_run.specs.Generated.{created_text, generated_text, overlaps_text}
 use Rattle.provision_run.specs.Messages.{message}
 use Rattle.provision_run.proofs.GeneratedLaws.{messages_of}

@@ -1,6 +1,6 @@
 use Rattle.std.proofs.Common.{◌≡◌, false, IfSome, ap, rules, subst}
 use Rattle.pv_path.specs.Paths.{Path}
-use Rattle.pv_host.specs.Content.{spelled}
+use Rattle.pv_folder.specs.Content.{spelled}
 use Rattle.pv_folder.specs.Opening.{IsRefused, is_outer}
 use Rattle.provision_run.proofs.FolderLaws.{failed_opening, keeps_after, output_from, refused_output, short_from, short_opening, told}
 use Rattle.provision_run.specs.OnFolder.{before_steps}

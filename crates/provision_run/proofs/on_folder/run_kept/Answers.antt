@@ -3,7 +3,7 @@ use Rattle.std.proofs.Common.{ap, subst, sym}
 use Rattle.pv_io.specs.Faults.{HasRisen}
 use Rattle.pv_steps.specs.Trees.{Files}
 use Rattle.pv_tree.specs.Held.{Held}
-use Rattle.pv_host.specs.Content.{Content, File, held, spelled}
+use Rattle.pv_folder.specs.Content.{Content, File, held, spelled}
 use Rattle.pv_folder.specs.Folders.{manifest_path}
 use Rattle.pv_folder.specs.Manifest.{manifest_of}
 use Rattle.provision_run.proofs.FolderLaws.{closed_less, kept_answer, kept_less, told}

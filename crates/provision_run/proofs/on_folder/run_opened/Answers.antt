@@ -1,5 +1,5 @@
 use Rattle.std.proofs.Common.{◌≡◌, ◌∙◌, ap, rules}
-use Rattle.pv_host.specs.Content.{spelled}
+use Rattle.pv_folder.specs.Content.{spelled}
 use Rattle.provision_run.proofs.FolderLaws.{here_short, told, told_output, told_short}
 use Rattle.provision_run.proofs.on_folder.run_opened.Goals as goal
 

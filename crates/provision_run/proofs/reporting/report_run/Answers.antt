@@ -1,6 +1,6 @@
 use Rattle.std.proofs.Common.{◌≡◌, ◌++◌, ◌∙◌, ℕ, List, ap, inl, inr}
 use Rattle.pv_read_config.specs.Known.{configured}
-use Rattle.pv_report.specs.GivenMessages.{report_messages}
+use Rattle.pv_overlap.specs.GivenMessages.{report_messages}
 use Rattle.provision_run.proofs.ReportLaws.{few_lines, reported}
 use Rattle.pv_text.proofs.MessagesLaws.{messages_then, messages_whole}
 use Rattle.provision_run.proofs.reporting.report_run.Goals as goal

@@ -1,6 +1,6 @@
 use Rattle.std.proofs.Common.{map, string_bytes}
 use Rattle.std.proofs.KnownBytes.{Appends-nil}
-use Rattle.pv_host.specs.Content.{spelled}
+use Rattle.pv_folder.specs.Content.{spelled}
 use Rattle.pv_words.specs.Rooted.{rooted_of}
 use Rattle.provision_run.proofs.FolderLaws.{folder_not_read, folder_not_usage, told}
 use Rattle.provision_run.proofs.RootedLaws.{generate_unrooted}

@@ -1,7 +1,7 @@
 use Rattle.std.proofs.Common.{List, ℕ, subst}
 use Rattle.std.proofs.KnownBytes.{Appends-nil}
 use Rattle.std.specs.Io.KnownBytes.{Appends}
-use Rattle.pv_host.specs.Content.{spelled}
+use Rattle.pv_folder.specs.Content.{spelled}
 use Rattle.provision_run.proofs.FolderLaws.{folder_front, folder_nothing, folder_written, output_blames}
 use Rattle.provision_run.proofs.top.provision_on.Goals as goal
 

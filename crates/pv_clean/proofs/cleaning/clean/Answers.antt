@@ -2,7 +2,7 @@ use Rattle.std.proofs.Common.{ap, ◌∙◌, arith, length, reverse}
 use Rattle.std.proofs.lemmas.List.{length-reverse}
 use Rattle.pv_steps.proofs.ActingLaws.{acted_within}
 use Rattle.pv_steps.proofs.TryingLaws.{acted_all, ask_can, tried_whole}
-use Rattle.pv_metadata.specs.Edits.{Pruned}
+use Rattle.pv_walk.specs.Edits.{Pruned}
 use Rattle.pv_table.specs.Cleaned.{is_aged}
 use Rattle.pv_clean.specs.Cleaning.{most_steps, IsCleanStep}
 use Rattle.pv_clean.proofs.CleanLaws.{aged_together, tried_told}

@@ -7,7 +7,7 @@ use Rattle.pv_path.specs.Paths.{Path}
 use Rattle.pv_steps.specs.Trees.{places}
 use Rattle.pv_walk.specs.Removal.{is_one_of}
 use Rattle.pv_table.specs.Reaching.{names}
-use Rattle.pv_find.proofs.FindingLaws.{keys_passing}
+use Rattle.pv_walk.proofs.FindingLaws.{keys_passing}
 use Rattle.pv_clean.proofs.AgeLaws.{named_more}
 use Rattle.pv_clean.proofs.naming.all_named.Goals as goal
 

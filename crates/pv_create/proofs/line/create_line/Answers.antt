@@ -1,5 +1,5 @@
 use Rattle.std.proofs.Common.{Ok, refl}
-use Rattle.pv_doing.proofs.CarryingLaws.{carried_failed}
+use Rattle.pv_steps.proofs.CarryingLaws.{carried_failed}
 use Rattle.pv_steps.proofs.ActingLaws.{acted_ended}
 use Rattle.pv_table.specs.Created.{by_line}
 use Rattle.pv_create.specs.Ways.{lines_course}

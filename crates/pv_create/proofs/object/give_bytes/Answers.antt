@@ -5,8 +5,8 @@ use Rattle.pv_steps.specs.declared.step.Step.TheVariants.{Write}
 use Rattle.pv_steps.specs.Acting.{Acted}
 use Rattle.pv_steps.specs.Trees.{IsKind}
 use Rattle.pv_steps.proofs.ActingLaws.{acted_tried}
-use Rattle.pv_metadata.specs.SettingMetadata.{IsKeptBy}
-use Rattle.pv_metadata.specs.Changing.{Changing}
+use Rattle.pv_walk.specs.SettingMetadata.{IsKeptBy}
+use Rattle.pv_walk.specs.Changing.{Changing}
 use Rattle.pv_create.specs.Adjusting.{GivesBytes, GivesWanted, holding}
 use Rattle.pv_create.proofs.WritingLaws.{held_already, asks_bytes, wrote_ok, not_kept}
 use Rattle.pv_create.proofs.object.give_bytes.Goals as goal

@@ -1,6 +1,6 @@
 use Rattle.std.proofs.Common.{refl}
 use Rattle.pv_steps.proofs.ActingLaws.{Moves, acted_none}
-use Rattle.pv_metadata.specs.SettingMetadata.{SettingMetadata, GivesMetadata}
+use Rattle.pv_walk.specs.SettingMetadata.{SettingMetadata, GivesMetadata}
 use Rattle.pv_create.proofs.WearingLaws.{without_metadata, worn}
 use Rattle.pv_create.proofs.object.give_metadata.Goals as goal
 

@@ -1,5 +1,5 @@
 use Rattle.std.proofs.Common.{◌≡◌, ◌++◌, List, ℕ, OnOk, subst}
-use Rattle.pv_doing.specs.Courses.{Partway, IsStepOfSome}
+use Rattle.pv_steps.specs.Courses.{Partway, IsStepOfSome}
 use Rattle.pv_steps.specs.Acting.{Acted}
 use Rattle.pv_text.specs.GivenMessages.{MessagesPart}
 use Rattle.pv_table.specs.Active.{in_create_order}

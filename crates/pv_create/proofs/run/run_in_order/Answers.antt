@@ -1,7 +1,7 @@
 use Rattle.std.proofs.Common.{◌≡◌, ◌∙◌, ◌+◌, ◌<◌, ◌≤◌, length, get_or, drop, refl, ap, subst, arith}
-use Rattle.pv_doing.specs.Courses.{each_of}
-use Rattle.pv_doing.proofs.CarryingLaws.{carried_none, underway_start, underway_failed, underway_next, underway_end}
-use Rattle.pv_doing.proofs.CourseLaws.{cut_start, none_left, partway_start}
+use Rattle.pv_steps.specs.Courses.{each_of}
+use Rattle.pv_steps.proofs.CarryingLaws.{carried_none, underway_start, underway_failed, underway_next, underway_end}
+use Rattle.pv_steps.proofs.CourseLaws.{cut_start, none_left, partway_start}
 use Rattle.pv_lines.specs.Lines.{IsLine}
 use Rattle.pv_steps.proofs.ActingLaws.{Moves}
 use Rattle.pv_table.specs.Active.{create_order, in_create_order}

@@ -1,9 +1,9 @@
 use Rattle.std.proofs.Common.{◌≡◌, ◌++◌, List, ℕ, None, Ok, is_some, length, option_map, refl, sym, ap, subst, ◌∙◌, append-nil, arith, length-append}
-use Rattle.pv_doing.specs.Courses.{carried_of}
-use Rattle.pv_doing.specs.declared.carried.Carried.{Carried}
-use Rattle.pv_doing.specs.declared.carried.Carried.TheVariants.{Whole}
-use Rattle.pv_doing.proofs.CarryingLaws.{single_messages, single_failed, refused_passed}
-use Rattle.pv_doing.proofs.CourseLaws.{part_none, single_gone}
+use Rattle.pv_steps.specs.Courses.{carried_of}
+use Rattle.pv_steps.specs.declared.carried.Carried.{Carried}
+use Rattle.pv_steps.specs.declared.carried.Carried.TheVariants.{Whole}
+use Rattle.pv_steps.proofs.CarryingLaws.{single_messages, single_failed, refused_passed}
+use Rattle.pv_steps.proofs.CourseLaws.{part_none, single_gone}
 use Rattle.pv_steps.specs.Trees.{places}
 use Rattle.pv_steps.proofs.ActingLaws.{Moves, acted_ended}
 use Rattle.pv_text.specs.GivenMessages.{MessagesPart}

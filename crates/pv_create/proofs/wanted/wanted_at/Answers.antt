@@ -1,7 +1,7 @@
 use Rattle.std.proofs.Common.{◌≡◌, true, false, inl, inr, ◌⊎◌, sym, ◌∙◌, refl}
 use Rattle.pv_steps.specs.declared.node.Kind.{Kind}
 use Rattle.pv_steps.specs.declared.node.Kind.TheVariants.{Directory, File, Link, Fifo, CharDevice, BlockDevice}
-use Rattle.pv_metadata.specs.Nodes.{is_file}
+use Rattle.pv_walk.specs.Nodes.{is_file}
 use Rattle.pv_create.specs.Sets.{writes}
 use Rattle.pv_create.proofs.AdjustLaws.{wanted_without}
 use Rattle.pv_create.proofs.wanted.wanted_at.Goals as goal

@@ -1,6 +1,6 @@
 use Rattle.std.specs.Prelude.{◌≡◌, ℕ, false, option_map}
 use Rattle.std.proofs.Common.{◌∙◌}
-use Rattle.pv_metadata.specs.Nodes.{object_states_of}
+use Rattle.pv_walk.specs.Nodes.{object_states_of}
 use Rattle.pv_path.specs.Paths.{has_staging}
 use Rattle.pv_path.proofs.Tests.{if_ok}
 use Rattle.pv_steps.specs.Trees.{places}
@@ -9,7 +9,7 @@ use Rattle.pv_table.specs.Repeatable.{IsRepeatable}
 use Rattle.pv_explain.specs.declared.explained.Explained.{Explained}
 use Rattle.pv_explain.specs.Acts.{object_state_in, standing}
 use Rattle.pv_explain.specs.Following.{Tells}
-use Rattle.pv_explain.proofs.StandingLaws.{left_there}
+use Rattle.pv_explain.proofs.TreeStandingLaws.{left_there}
 use Rattle.pv_explain.proofs.explaining.explain.Goals as goal
 
 pub returns-in-Some-clause-acts : goal.returns-in-Some-clause-acts

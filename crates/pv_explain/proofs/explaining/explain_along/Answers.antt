@@ -1,6 +1,6 @@
 use Rattle.std.specs.Prelude.{◌≡◌, List, Option, Some}
 use Rattle.std.proofs.Common.{sym, ap, subst, ◌∙◌}
-use Rattle.pv_metadata.specs.Nodes.{object_states_of}
+use Rattle.pv_walk.specs.Nodes.{object_states_of}
 use Rattle.pv_path.specs.Paths.{Path}
 use Rattle.pv_path.proofs.Tests.{if_ok}
 use Rattle.pv_steps.specs.Trees.{places}
@@ -8,7 +8,7 @@ use Rattle.pv_table.specs.Pointwise.{ObjectStates, tabulated}
 use Rattle.pv_explain.specs.declared.explained.Explained.{Explained}
 use Rattle.pv_explain.specs.Acts.{standing}
 use Rattle.pv_explain.specs.Following.{IsAlong, Tells}
-use Rattle.pv_explain.proofs.StandingLaws.{stands_along}
+use Rattle.pv_explain.proofs.TreeStandingLaws.{stands_along}
 use Rattle.pv_explain.proofs.explaining.explain_along.Goals as goal
 
 pub returns : goal.returns

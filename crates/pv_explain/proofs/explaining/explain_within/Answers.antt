@@ -1,13 +1,13 @@
 use Rattle.std.specs.Prelude.{List}
 use Rattle.std.proofs.Common.{sym, ap, subst, ◌∙◌}
-use Rattle.pv_metadata.specs.Nodes.{object_states_of}
+use Rattle.pv_walk.specs.Nodes.{object_states_of}
 use Rattle.pv_path.specs.Paths.{Path}
 use Rattle.pv_steps.specs.Trees.{places}
 use Rattle.pv_table.specs.Pointwise.{ObjectStates, tabulated}
 use Rattle.pv_explain.specs.Acts.{standing}
 use Rattle.pv_explain.specs.Following.{holds, IsWithin}
 use Rattle.pv_explain.proofs.RegionLaws.{holds_root}
-use Rattle.pv_explain.proofs.StandingLaws.{stands_within}
+use Rattle.pv_explain.proofs.TreeStandingLaws.{stands_within}
 use Rattle.pv_explain.proofs.explaining.explain_within.Goals as goal
 
 pub returns : goal.returns

@@ -10,7 +10,7 @@ use Rattle.pv_explain.specs.declared.explained.LineAct.{LineAct}
 use Rattle.pv_explain.specs.declared.explained.Explained.{Explained}
 use Rattle.pv_explain.specs.Acts.{act_between, object_state_in, line_act}
 use Rattle.pv_explain.specs.Following.{Follows}
-use Rattle.pv_explain.proofs.OrderLaws.{is_there, is_next, order-length, state_more, acts_more, state_end, acts_end, follows_path, suits_line}
+use Rattle.pv_explain.proofs.LineByLineLaws.{is_there, is_next, order-length, state_more, acts_more, state_end, acts_end, follows_path, suits_line}
 use Rattle.pv_explain.proofs.explaining.follow.Goals as goal
 
 pub line_at-line-requires : goal.line_at-line-requires

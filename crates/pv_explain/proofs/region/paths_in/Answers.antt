@@ -2,7 +2,7 @@ use Rattle.std.specs.Prelude.{◌≡◌, ◌++◌, List}
 use Rattle.std.proofs.Common.{ap, ◌∙◌}
 use Rattle.pv_path.specs.Paths.{Path}
 use Rattle.pv_walk.specs.Removal.{is_one_of}
-use Rattle.pv_explain.proofs.StandingLaws.{all_read, below_all, above_all}
+use Rattle.pv_explain.proofs.TreeStandingLaws.{all_read, below_all, above_all}
 use Rattle.pv_explain.proofs.region.paths_in.Goals as goal
 
 pub returns : goal.returns

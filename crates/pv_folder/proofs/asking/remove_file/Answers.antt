@@ -2,7 +2,7 @@ use Rattle.std.proofs.Common.{◌≡◌, ◌∙◌, ◌++◌, true, Some, Option
 use Rattle.std.specs.Prelude.{OnOk}
 use Rattle.pv_path.specs.Paths.{Path}
 use Rattle.pv_steps.specs.Trees.{places}
-use Rattle.pv_host.specs.Content.{Change, IsChanged, RemoveFile, spelled}
+use Rattle.pv_folder.specs.Content.{Change, IsChanged, RemoveFile, spelled}
 use Rattle.pv_folder.specs.Folders.{tree_path}
 use Rattle.pv_folder.specs.Keeping.{IsChangedBy}
 use Rattle.pv_folder.proofs.AskingLaws.{file_removed}

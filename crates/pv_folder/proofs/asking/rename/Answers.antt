@@ -2,7 +2,7 @@ use Rattle.std.proofs.Common.{◌≡◌, ◌∙◌, ◌++◌, true, Option, is_s
 use Rattle.std.specs.Prelude.{OnOk}
 use Rattle.pv_path.specs.Paths.{Path}
 use Rattle.pv_steps.specs.Trees.{places}
-use Rattle.pv_host.specs.Content.{Change, IsChanged, Rename, spelled}
+use Rattle.pv_folder.specs.Content.{Change, IsChanged, Rename, spelled}
 use Rattle.pv_folder.specs.Folders.{real_of, tree_path}
 use Rattle.pv_folder.specs.Keeping.{IsChangedBy}
 use Rattle.pv_folder.proofs.AskingLaws.{real_moved}

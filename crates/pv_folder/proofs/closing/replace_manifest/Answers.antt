@@ -1,6 +1,6 @@
 use Rattle.std.proofs.Common.{◌∙◌, ap}
 use Rattle.pv_path.proofs.Tests.{on_ok}
-use Rattle.pv_host.specs.Content.{spelled}
+use Rattle.pv_folder.specs.Content.{spelled}
 use Rattle.pv_folder.proofs.ClosingLaws.{has_manifest_as, kept_as, may_move_as, on_err, ready_as}
 use Rattle.pv_folder.proofs.closing.replace_manifest.Goals as goal
 

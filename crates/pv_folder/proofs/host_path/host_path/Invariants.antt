@@ -1,5 +1,5 @@
 use Rattle.std.proofs.Common.{◌≡◌, ◌++◌, take}
-use Rattle.pv_host.specs.Content.{spelled}
+use Rattle.pv_folder.specs.Content.{spelled}
 use Rattle.pv_folder.specs.Folders.{tree_path}
 use Rattle.pv_folder.proofs.host_path.host_path.Given as goal
 

@@ -1,4 +1,4 @@
-use Rattle.pv_host.specs.Content.{held}
+use Rattle.pv_folder.specs.Content.{held}
 use Rattle.pv_folder.proofs.MomentLaws.{between}
 use Rattle.pv_folder.proofs.ReadyLaws.{ready_of}
 use Rattle.pv_folder.proofs.laws.a_folder_always_holds_an_intermediate_tree.Goals as goal

@@ -6,9 +6,9 @@ use Rattle.pv_steps.specs.Objects.{IsObject}
 use Rattle.pv_steps.specs.Trees.{Files}
 use Rattle.pv_tree.specs.Growth.{Grown}
 use Rattle.pv_tree.specs.Held.{root_alone}
-use Rattle.pv_generate.proofs.PlanLaws.{Planned}
-use Rattle.pv_generate.proofs.GrowLaws.{IsGrowing, all_grown, walk_over}
-use Rattle.pv_host.proofs.Copying.{some_entry}
+use Rattle.pv_tree.proofs.PlanLaws.{Planned}
+use Rattle.pv_tree.proofs.GrowLaws.{IsGrowing, all_grown, walk_over}
+use Rattle.pv_folder.proofs.Copying.{some_entry}
 use Rattle.pv_image.proofs.MappedLaws.{shown_by}
 use Rattle.pv_folder.specs.Merge.{plain, plained}
 use Rattle.pv_folder.proofs.PlainGrowth.{comes_after, in_directory, is_named, is_whole, root_begun, root_kind, root_whole, then_grown}

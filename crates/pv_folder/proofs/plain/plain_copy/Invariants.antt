@@ -1,6 +1,6 @@
 use Rattle.std.proofs.Common.{length, map}
 use Rattle.pv_steps.specs.Trees.{IsTree}
-use Rattle.pv_generate.proofs.GrowLaws.{IsGrowing}
+use Rattle.pv_tree.proofs.GrowLaws.{IsGrowing}
 use Rattle.pv_image.proofs.MappedLaws.{shown_by}
 use Rattle.pv_folder.specs.Merge.{plain, plained}
 use Rattle.pv_folder.proofs.plain.plain_copy.Given as goal

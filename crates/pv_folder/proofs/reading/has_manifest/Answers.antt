@@ -1,6 +1,6 @@
 use Rattle.std.proofs.Common.{◌≡◌, ◌∙◌, List, Option, Some, None, IfSome, codes, is_some, sym, ap, subst}
-use Rattle.pv_host.specs.declared.item.HostItem.{HostItem}
-use Rattle.pv_host.specs.Content.{IsContent, held, listing, spelled}
+use Rattle.pv_folder.specs.declared.item.HostItem.{HostItem}
+use Rattle.pv_folder.specs.Content.{IsContent, held, listing, spelled}
 use Rattle.pv_folder.specs.Folders.{IsPrepared, manifest_path}
 use Rattle.pv_folder.specs.Opening.{IsRefused, not_prepared}
 use Rattle.pv_folder.specs.declared.open_fault.OpenFault.TheVariants.{NotPrepared}

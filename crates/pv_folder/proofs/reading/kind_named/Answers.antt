@@ -1,6 +1,6 @@
 use Rattle.std.proofs.Common.{◌≡◌, ◌∙◌, ℕ, List, get_or, Some, sym, ap}
 use Rattle.pv_path.specs.Names.{same_bytes}
-use Rattle.pv_host.specs.declared.item.HostItem.{HostItem}
+use Rattle.pv_folder.specs.declared.item.HostItem.{HostItem}
 use Rattle.pv_folder.proofs.ListingLaws.{named_here, named_later}
 use Rattle.pv_folder.proofs.reading.kind_named.Goals as goal
 

@@ -1,5 +1,5 @@
 use Rattle.std.proofs.Common.{◌≡◌, Option, None, false, IfSome, subst}
-use Rattle.pv_host.specs.Content.{Content, spelled}
+use Rattle.pv_folder.specs.Content.{Content, spelled}
 use Rattle.pv_folder.specs.Folders.{real_in}
 use Rattle.pv_folder.specs.Opening.{IsOpened, IsRefused, fault_among, is_outer, objects_below}
 use Rattle.pv_folder.proofs.GoingLaws.{passed_on, from_content}

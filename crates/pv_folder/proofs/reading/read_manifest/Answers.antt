@@ -1,6 +1,6 @@
 use Rattle.std.proofs.Common.{◌≡◌, ◌∙◌, Option, List, ℕ, IfSome, ap, subst}
 use Rattle.pv_path.specs.Paths.{Path}
-use Rattle.pv_host.specs.Content.{bytes_of, held, spelled}
+use Rattle.pv_folder.specs.Content.{bytes_of, held, spelled}
 use Rattle.pv_folder.specs.Folders.{manifest_path}
 use Rattle.pv_folder.proofs.RoomLaws.{err_on, read_says, read_unsaid}
 use Rattle.pv_folder.proofs.reading.read_manifest.Goals as goal

@@ -6,8 +6,8 @@ use Rattle.pv_steps.specs.declared.node.Kind.TheVariants as node
 use Rattle.pv_steps.specs.Objects.{fresh}
 use Rattle.pv_tree.specs.Growth.{Grown}
 use Rattle.pv_tree.specs.Held.{root_alone}
-use Rattle.pv_host.specs.Content.{Content, spelled}
-use Rattle.pv_host.specs.Lists.{is_ordered}
+use Rattle.pv_folder.specs.Content.{Content, spelled}
+use Rattle.pv_folder.specs.Lists.{is_ordered}
 use Rattle.pv_folder.specs.declared.found.Found.{Found}
 use Rattle.pv_folder.specs.declared.open_fault.OpenFault.{OpenFault}
 use Rattle.pv_folder.specs.Folders.{tree_path}

@@ -1,5 +1,5 @@
 use Rattle.std.proofs.Common.{◌≡◌, ◌≤◌, ◌-◌, ◌+◌}
-use Rattle.pv_host.specs.Content.{spelled}
+use Rattle.pv_folder.specs.Content.{spelled}
 use Rattle.pv_folder.specs.Merge.{IsPlain}
 use Rattle.pv_folder.specs.Opening.{most_bytes, most_objects}
 use Rattle.pv_folder.proofs.GoingLaws.{IsGoing}

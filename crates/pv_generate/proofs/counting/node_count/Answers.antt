@@ -1,7 +1,7 @@
 use Rattle.std.proofs.Common.{◌≡◌, ap, arith, length, sym, ◌∙◌}
 use Rattle.std.specs.FinMap as fin
-use Rattle.pv_generate.proofs.GrowLaws.{walk_over}
-use Rattle.pv_generate.proofs.PlanLaws.{Planned}
+use Rattle.pv_tree.proofs.GrowLaws.{walk_over}
+use Rattle.pv_tree.proofs.PlanLaws.{Planned}
 use Rattle.pv_generate.proofs.counting.node_count.Goals as goal
 
 pub returns : goal.returns

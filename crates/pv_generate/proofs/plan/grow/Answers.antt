@@ -2,8 +2,8 @@ use Rattle.std.proofs.Common.{◌≡◌, ◌∙◌, [], ap, sym, subst}
 use Rattle.pv_steps.specs.Trees.{Files, IsTree}
 use Rattle.pv_tree.specs.Growth.{Grown}
 use Rattle.pv_tree.specs.Held.{root_alone}
-use Rattle.pv_generate.proofs.GrowLaws.{IsGrowing, all_grown, grown, has_parent, is_object, root_directory, root_whole, some_planned, start}
-use Rattle.pv_generate.proofs.PlanLaws.{Planned, held, sorted_first}
+use Rattle.pv_tree.proofs.GrowLaws.{IsGrowing, all_grown, grown, has_parent, is_object, root_directory, root_whole, some_planned, start}
+use Rattle.pv_tree.proofs.PlanLaws.{Planned, held, sorted_first}
 use Rattle.pv_generate.proofs.plan.grow.Goals as goal
 
 pub unreachable-requires : goal.unreachable-requires

@@ -1,5 +1,5 @@
-use Rattle.pv_generate.proofs.GrowLaws.{IsGrowing}
-use Rattle.pv_generate.proofs.PlanLaws.{held}
+use Rattle.pv_tree.proofs.GrowLaws.{IsGrowing}
+use Rattle.pv_tree.proofs.PlanLaws.{held}
 use Rattle.pv_generate.proofs.plan.grow.Given as goal
 
 abbrev pub invariant-loop-path : goal.invariant-loop-path

@@ -4,7 +4,7 @@ use Rattle.std.proofs.Math.Bool.{and_comm}
 use Rattle.pv_path.specs.Paths.{Path, is_prefix, same_path}
 use Rattle.pv_walk.specs.Removal.{is_below, is_one_of}
 use Rattle.pv_walk.specs.Listing.{IsListing}
-use Rattle.pv_find.proofs.FindingLaws.{keys_passing, listed_are}
+use Rattle.pv_walk.proofs.FindingLaws.{keys_passing, listed_are}
 use Rattle.pv_table.specs.declared.taking.Taking.{Taking}
 use Rattle.pv_remove.specs.Covering.{takes}
 use Rattle.pv_remove.proofs.covering.taken_paths.Goals as goal

@@ -4,7 +4,7 @@ use Rattle.pv_lines.specs.declared.line.Line.{Line}
 use Rattle.pv_steps.specs.Trees.{places}
 use Rattle.pv_text.specs.GivenMessages.{message_text_at}
 use Rattle.pv_table.specs.Removed.{judged, keeps, refused_place, removal_texts}
-use Rattle.pv_find.proofs.FindingLaws.{any_more}
+use Rattle.pv_walk.proofs.FindingLaws.{any_more}
 use Rattle.pv_remove.proofs.JudgeLaws.{flat_more}
 use Rattle.pv_remove.proofs.judging.judge.Goals as goal
 

@@ -4,7 +4,7 @@ use Rattle.std.specs.FinMap as fin
 use Rattle.pv_path.specs.Paths.{Path, is_prefix}
 use Rattle.pv_steps.specs.Trees.{places}
 use Rattle.pv_walk.specs.Removal.{is_one_of}
-use Rattle.pv_find.proofs.FindingLaws.{keys_passing}
+use Rattle.pv_walk.proofs.FindingLaws.{keys_passing}
 use Rattle.pv_table.specs.Removed.{purges}
 use Rattle.pv_remove.proofs.RunLaws.{purges_is, purges_none}
 use Rattle.pv_remove.proofs.purging.paths_of.Goals as goal

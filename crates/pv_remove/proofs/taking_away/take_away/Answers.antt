@@ -3,9 +3,9 @@ use Rattle.pv_path.specs.Paths.{Path}
 use Rattle.pv_steps.specs.Acting.{Acted}
 use Rattle.pv_steps.specs.Content.{Removes}
 use Rattle.pv_steps.proofs.ActingLaws.{acted_within}
-use Rattle.pv_metadata.specs.Edits.{Pruned}
+use Rattle.pv_walk.specs.Edits.{Pruned}
 use Rattle.pv_walk.specs.Removal.{is_one_of}
-use Rattle.pv_find.specs.Whole.{count_of}
+use Rattle.pv_walk.specs.Whole.{count_of}
 use Rattle.pv_remove.specs.Ended.{TakesInOrder}
 use Rattle.pv_remove.proofs.TakeLaws.{as_many, in_order, left_without, removable, same_paths}
 use Rattle.pv_remove.proofs.taking_away.take_away.Goals as goal

@@ -1,7 +1,7 @@
 -- stage_copy
 use Rattle.std.proofs.Common.{◌*◌, ap, subst, ◌∙◌, arith}
 use Rattle.std.specs.Prelude.{[], is_some}
-use Rattle.pv_metadata.specs.Nodes.{object_states_of}
+use Rattle.pv_walk.specs.Nodes.{object_states_of}
 use Rattle.pv_path.specs.Paths.{staging_of}
 use Rattle.pv_steps.specs.Acting.{Acted}
 use Rattle.pv_steps.specs.Trees.{places}

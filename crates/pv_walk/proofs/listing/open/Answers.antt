@@ -1,7 +1,7 @@
 use Rattle.std.proofs.Common.{◌++◌, List, map, append_assoc, sym, ap, ◌∙◌, [], ◌∷◌}
 use Rattle.std.specs.Prelude.{Option}
 use Rattle.pv_path.proofs.Tests.{on_ok}
-use Rattle.pv_metadata.specs.declared.object_state.ObjectState.{ObjectState}
+use Rattle.pv_walk.specs.declared.object_state.ObjectState.{ObjectState}
 use Rattle.pv_walk.specs.declared.listing.Task.{Task}
 use Rattle.pv_walk.specs.declared.listing.Task.TheVariants.{Open, Close}
 use Rattle.pv_walk.specs.declared.listing.Piece.TheVariants.{Make}

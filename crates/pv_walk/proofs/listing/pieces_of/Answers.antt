@@ -4,7 +4,7 @@ use Rattle.pv_path.specs.Paths.{Path}
 use Rattle.pv_steps.specs.Trees.{places}
 use Rattle.pv_walk.specs.declared.listing.Task.{Task}
 use Rattle.pv_walk.specs.declared.listing.Task.TheVariants.{Open}
-use Rattle.pv_metadata.specs.Nodes.{object_states_of}
+use Rattle.pv_walk.specs.Nodes.{object_states_of}
 use Rattle.pv_walk.specs.Copying.{copy_from, topped}
 use Rattle.pv_walk.specs.Pieces.{names_at}
 use Rattle.pv_walk.proofs.CopiedLaws.{copied_subtree, copied_stands}

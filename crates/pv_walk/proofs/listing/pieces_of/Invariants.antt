@@ -1,5 +1,5 @@
 use Rattle.pv_steps.specs.Trees.{places}
-use Rattle.pv_metadata.specs.Nodes.{object_states_of}
+use Rattle.pv_walk.specs.Nodes.{object_states_of}
 use Rattle.pv_walk.specs.Copying.{copy_from, topped}
 use Rattle.pv_walk.specs.Pieces.{names_at}
 use Rattle.pv_walk.proofs.CopyListing.{depth_of, IsListed, hefts}

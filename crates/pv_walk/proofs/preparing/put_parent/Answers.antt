@@ -6,7 +6,7 @@ use Rattle.pv_steps.specs.Acting.{Acted}
 use Rattle.pv_steps.specs.Steps.{made}
 use Rattle.pv_steps.specs.Trees.{Places, places}
 use Rattle.pv_steps.proofs.ActingLaws.{acted_weaken}
-use Rattle.pv_metadata.specs.Edits.{count_at}
+use Rattle.pv_walk.specs.Edits.{count_at}
 use Rattle.pv_walk.specs.declared.new_file.NewFile.{NewFile}
 use Rattle.pv_walk.specs.Preparing.{parent_file}
 use Rattle.pv_walk.specs.Putting.{Putting, IsPutStep, put_over}

@@ -9,7 +9,7 @@ use Rattle.pv_steps.specs.Content.{Removes}
 use Rattle.pv_steps.proofs.ContentLaws.{removes-wider}
 use Rattle.pv_steps.specs.Acting.{Acted, refused}
 use Rattle.pv_steps.proofs.ActingLaws.{Moves, well, acted_none, acted_weaken}
-use Rattle.pv_metadata.specs.Edits.{Pruned, taken, emptied, count_at}
+use Rattle.pv_walk.specs.Edits.{Pruned, taken, emptied, count_at}
 use Rattle.pv_walk.proofs.PublishLaws.{IsCleared, cleared-emptied, cleared-taken, moved_same, stage_same, yields_emptied, yields_taken}
 use Rattle.pv_walk.specs.Removal.{is_below, count_below, Clearing}
 use Rattle.pv_walk.proofs.ReplacingLaws.{clearing_none, clearing_below, clearing_taken}

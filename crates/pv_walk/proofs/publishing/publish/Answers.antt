@@ -9,7 +9,7 @@ use Rattle.pv_steps.specs.declared.tree.Tree.{Ghosts}
 use Rattle.pv_steps.specs.declared.tree.TreeFault.{TreeFault}
 use Rattle.pv_steps.specs.Acting.{Acted}
 use Rattle.pv_steps.proofs.ActingLaws.{Moves, no_memory, acted_none, acted_then, acted_weaken, acted_within, acted_passed, acted_ended, acted_end}
-use Rattle.pv_metadata.specs.Edits.{count_at}
+use Rattle.pv_walk.specs.Edits.{count_at}
 use Rattle.pv_steps.specs.Content.{Removes}
 use Rattle.pv_walk.specs.Staging.{IsPublishing}
 use Rattle.pv_walk.specs.Removal.{Clearing, Publishing, MayHaveMoved}

@@ -1,6 +1,6 @@
 -- put_over
 use Rattle.std.proofs.Common.{◌+◌, refl, ap, subst, ◌∙◌, arith}
-use Rattle.pv_metadata.specs.Edits.{count_at}
+use Rattle.pv_walk.specs.Edits.{count_at}
 use Rattle.pv_path.specs.Paths.{staging_of}
 use Rattle.pv_steps.specs.Acting.{Acted}
 use Rattle.pv_steps.specs.Trees.{places}

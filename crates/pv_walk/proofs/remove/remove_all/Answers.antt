@@ -10,7 +10,7 @@ use Rattle.pv_steps.specs.Trees.{Files}
 use Rattle.pv_steps.specs.Trying.{CanAll, TriedAll}
 use Rattle.pv_steps.proofs.ActingLaws.{Moves, acted_none, no_memory}
 use Rattle.pv_steps.proofs.TryingLaws.{acted_all, ask_can, tried_whole}
-use Rattle.pv_metadata.specs.Edits.{Pruned}
+use Rattle.pv_walk.specs.Edits.{Pruned}
 use Rattle.pv_walk.specs.Removal.{is_one_of, removal_at}
 use Rattle.pv_walk.proofs.SweepLaws.{pruned-none}
 use Rattle.pv_walk.proofs.TakingLaws.{all_without, removals_ask, removals_part, steps_of}

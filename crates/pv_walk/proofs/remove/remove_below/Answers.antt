@@ -2,7 +2,7 @@ use Rattle.std.proofs.Common.{sym, ◌∙◌, length}
 use Rattle.pv_steps.specs.Content.{Removes}
 use Rattle.pv_steps.proofs.ContentLaws.{removes-wider}
 use Rattle.pv_steps.proofs.ActingLaws.{acted_weaken}
-use Rattle.pv_metadata.specs.Edits.{Pruned}
+use Rattle.pv_walk.specs.Edits.{Pruned}
 use Rattle.pv_walk.specs.Removal.{is_below, is_one_of, count_below}
 use Rattle.pv_walk.proofs.ListingLaws.{listing_count}
 use Rattle.pv_walk.proofs.EmptyingLaws.{all_gone-emptied}

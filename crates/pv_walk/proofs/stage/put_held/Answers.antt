@@ -5,7 +5,7 @@ use Rattle.pv_steps.specs.Acting.{Acted}
 use Rattle.pv_steps.specs.Steps.{made}
 use Rattle.pv_steps.specs.Trees.{places}
 use Rattle.pv_steps.proofs.ActingLaws.{Moves, no_memory, acted_none, acted_weaken}
-use Rattle.pv_metadata.specs.Edits.{SameOutside}
+use Rattle.pv_walk.specs.Edits.{SameOutside}
 use Rattle.pv_walk.specs.declared.new_file.NewKind.{NewKind}
 use Rattle.pv_walk.specs.Making.{Beginning, BeginsNew, held_object}
 use Rattle.pv_walk.specs.Staging.{GivesNew, HasTarget}

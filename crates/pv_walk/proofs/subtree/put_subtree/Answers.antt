@@ -1,7 +1,7 @@
 -- put_subtree
 use Rattle.std.proofs.Common.{◌+◌, ap, ◌∙◌, arith, inl, inr}
 use Rattle.std.specs.Prelude.{is_some}
-use Rattle.pv_metadata.specs.Edits.{count_at}
+use Rattle.pv_walk.specs.Edits.{count_at}
 use Rattle.pv_path.specs.Paths.{staging_of}
 use Rattle.pv_steps.specs.Steps.{moved}
 use Rattle.pv_steps.specs.Trees.{Places}

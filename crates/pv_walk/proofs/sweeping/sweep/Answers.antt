@@ -7,7 +7,7 @@ use Rattle.pv_steps.specs.Acting.{Acted}
 use Rattle.pv_steps.proofs.ActingLaws.{Moves, well, no_memory, acted_within, acted_passed, acted_ended, acted_end}
 use Rattle.pv_steps.specs.Trees.{places}
 use Rattle.pv_steps.specs.Content.{Removes}
-use Rattle.pv_metadata.specs.Edits.{Pruned, taken, all_taken, count_at}
+use Rattle.pv_walk.specs.Edits.{Pruned, taken, all_taken, count_at}
 use Rattle.pv_walk.specs.Staging.{staging_names, is_under_any, count_at_all, can_stage}
 use Rattle.pv_walk.proofs.SweepLaws.{short_last, all_taken-more, count-more, count-le, under_any, pruned_count, length-staging_names}
 use Rattle.pv_walk.proofs.Removing.{prune_then}

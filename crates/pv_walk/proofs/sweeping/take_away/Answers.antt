@@ -4,7 +4,7 @@ use Rattle.pv_path.proofs.PathLaws.{is_prefix-refl}
 use Rattle.pv_steps.specs.Trees.{Files, Places, places, IsTree, IsPresent, IsEmptyIn}
 use Rattle.pv_steps.specs.Steps.{gone}
 use Rattle.pv_steps.proofs.ActingLaws.{Moves, no_memory, acted_within, acted_passed, acted_ended}
-use Rattle.pv_metadata.specs.Edits.{taken, emptied, count_at}
+use Rattle.pv_walk.specs.Edits.{taken, emptied, count_at}
 use Rattle.pv_walk.specs.Removal.{count_below}
 use Rattle.pv_walk.proofs.RemovalLaws.{not_below_itself, is_below-append, kept-present}
 use Rattle.pv_walk.proofs.EmptyingLaws.{emptied-below, emptied-kept, gone-emptied}

@@ -1,4 +1,4 @@
-use Rattle.pv_host.specs.Content.{spelled}
+use Rattle.pv_folder.specs.Content.{spelled}
 use Rattle.pv_folder.proofs.ReadyLaws.{agrees_kept, ready_kept}
 use Rattle.pv_folder.proofs.folder_tree.FolderTree.of.Goals as goal
 

@@ -1,7 +1,7 @@
 use Rattle.std.proofs.Common.{OnErr, OnOk, ap, subst}
 use Rattle.std.specs.Prelude.{IfSome}
 use Rattle.pv_path.specs.Paths.{Path}
-use Rattle.pv_host.specs.Content.{held, spelled}
+use Rattle.pv_folder.specs.Content.{held, spelled}
 use Rattle.pv_folder.specs.Keeping.{HasManifest, IsReady, IsSameButNew}
 use Rattle.pv_folder.proofs.ClosingLaws.{agrees_as}
 use Rattle.pv_folder.proofs.folder_tree.FolderTree.replace_manifest.Goals as goal

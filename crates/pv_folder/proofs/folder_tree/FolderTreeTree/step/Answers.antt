@@ -2,7 +2,7 @@ use Rattle.std.proofs.Common.{◌≡◌, ◌∙◌, true, false, ap, refl, subst
 use Rattle.std.specs.Prelude.{IfSome}
 use Rattle.pv_path.specs.Paths.{Path}
 use Rattle.pv_steps.specs.Trees.{Files, places}
-use Rattle.pv_host.specs.Content.{held, spelled}
+use Rattle.pv_folder.specs.Content.{held, spelled}
 use Rattle.pv_folder.specs.Folders.{Agrees, tree_path}
 use Rattle.pv_folder.specs.Keeping.{IsAtMostAhead, IsChangedBy, MayAskFor, change_for}
 use Rattle.pv_folder.proofs.ReadyLaws.{agrees_step, is_ahead, may_ask_for, moves_asked, outside_step, ready_step}

@@ -1,5 +1,5 @@
 use Rattle.std.proofs.Common.{refl}
-use Rattle.pv_generate.proofs.PlanLaws.{insert-map}
+use Rattle.pv_tree.proofs.PlanLaws.{insert-map}
 use Rattle.pv_generate.proofs.plan.Plan.put.Goals as goal
 
 pub returns : goal.returns

@@ -1,0 +1,142 @@
+//! The phases of a run, one after the other.
+ghost use Rattle.std.specs.Prelude.{◌≡◌, ◌++◌, ◌∷◌, [], drop, length, IfOk, OnOk};
+ghost use Rattle.pv_create.specs.OnTheWay.{IsFramed};
+ghost use Rattle.pv_steps.specs.Courses.{Partway, IsStepOfSome, carried_of, Cut, HasGone};
+ghost use Rattle.pv_steps.specs.Acting.{refused, Acted};
+ghost use Rattle.pv_steps.specs.Doing.{after_each, messages_for_each, one_is_refused, taken_by_each};
+ghost use Rattle.pv_text.specs.GivenMessages.{MessagesPart};
+ghost use Rattle.provision_run.specs.PhasesOnTheWay.{GiveBy, IsBetweenBy};
+ghost use Rattle.provision_run.specs.Phases.{asked, falls_short, is_boot, is_step_of, IsMendedBy, left_by, most_steps_of, on_way, phase_cut, phases_course, phases_of, messages_in};
+ghost use Rattle.provision_run.specs.PhasesSwept.{IsSweptBy};
+
+use crate::boot::boot_run;
+use pv_clean::clean_run;
+use pv_create::create_run;
+use pv_remove::{purge_run, remove_run};
+use pv_steps::{Carried, Tree, TreeFault};
+use pv_table::Table;
+use pv_text::Messages;
+use pv_words::Options;
+use std::alloc::{AllocError, Global};
+
+/// A phase of a run (systemd-tmpfiles(8)).
+#[derive(Clone, Copy)]
+pub enum Phase {
+    /// What lines r, R and D name is taken away.
+    Remove,
+    /// What is old is taken away.
+    Clean,
+    /// Lines make and adjust what they name.
+    Create,
+    /// What lines with `$` name is taken away.
+    Purge,
+}
+
+/// The phases that options ask for, in their order; a report has none.
+pub fn phases_of(alloc: Global, options: &Options) -> Result<Vec<Phase>, AllocError>
+    ensures { IfOk result (λ phases. phases.items ≡ phases_of options.entry.now) }
+{
+    let mut phases = Vec::new(alloc);
+    if options.report {
+        return Ok(phases);
+    }
+    add_phase(&mut phases, options.remove, Phase::Remove)?;
+    add_phase(&mut phases, options.clean, Phase::Clean)?;
+    add_phase(&mut phases, options.create, Phase::Create)?;
+    add_phase(&mut phases, options.purge, Phase::Purge)?;
+    Ok(phases)
+}
+
+/// Adds a phase, if it is asked for.
+fn add_phase(phases: &mut Vec<Phase>, wanted: bool, phase: Phase) -> Result<(), AllocError>
+    ensures { OnOk result (phases.new.items ≡ phases.old.items ++ asked wanted phase) }
+{
+    if wanted {
+        phases.push(phase)?;
+    }
+    Ok(())
+}
+
+/// Whether phases are those of the boot command.
+fn is_boot(phases: &[Phase]) -> bool
+    ensures { result ≡ is_boot phases.now }
+{
+    matches!(phases, [Phase::Remove, Phase::Create])
+}
+
+/// Carries out phases one after the other, each over the tree that those before it leave.
+pub fn run_phases<T: Tree>(
+    alloc: Global,
+    tree: &mut T,
+    phases: &[Phase],
+    table: &Table,
+    now: u64,
+    messages: &mut Messages,
+) -> Result<Carried, TreeFault>
+    ensures ok { OnOk result (T.state tree.new ≡ after_each (phases_course table.now now).whole phases.now (T.state tree.old)) }
+    ensures new_messages { OnOk result (messages.new
+        ≡ messages.old ++ messages_for_each (phases_course table.now now).whole phases.now (T.state tree.old)) }
+    ensures carried { IfOk result (λ c. c
+        ≡ carried_of (one_is_refused (phases_course table.now now).whole phases.now (T.state tree.old))) }
+    ensures staged { OnOk result (IsSweptBy phases.now table.now now (T.state tree.old) (T.state tree.new)) }
+    ensures part { MessagesPart (messages_for_each (phases_course table.now now).whole phases.now (T.state tree.old))
+        messages.old messages.new }
+    ensures acted { Acted T.Tree (Partway (phases_course table.now now) phases.now (T.state tree.old))
+        (IsStepOfSome (phases_course table.now now) phases.now (T.state tree.old))
+        (taken_by_each (phases_course table.now now).whole phases.now (T.state tree.old)) now tree.old tree.new result }
+    // Where it was cut short, the phases before the one at work have done all their steps and said all that is said in
+    // them, and those after it nothing; so it is with the lines of creating.
+    ensures went { HasGone T.Tree (Cut (phases_course table.now now) now (refused result) phases.now (T.state tree.old))
+        now tree.old tree.new messages.old messages.new }
+    ensures mended { IsMendedBy phases.now table.now now (T.state tree.old)
+        (drop (length (T.steps tree.old)) (T.steps tree.new)) }
+    ensures framed { IsFramed table.now now (T.state tree.old)
+        (drop (length (T.steps tree.old)) (T.steps tree.new)) }
+    ensures between { IsBetweenBy phases.now table.now now (T.state tree.old)
+        (drop (length (T.steps tree.old)) (T.steps tree.new)) }
+    ensures gives { GiveBy phases.now table.now now (T.state tree.old)
+        (drop (length (T.steps tree.old)) (T.steps tree.new)) }
+{
+    // The lines of a table were read.
+    let _lines = table.lines();
+    if is_boot(phases) {
+        return boot_run(alloc, tree, table, now, messages);
+    }
+    let mut carried = Carried::Whole;
+    for phase in phases {
+        let one = do_phase(alloc, tree, *phase, table, now, messages)?;
+        carried = carried.and(one);
+    }
+    Ok(carried)
+}
+
+/// Carries out a phase.
+fn do_phase<T: Tree>(
+    alloc: Global,
+    tree: &mut T,
+    phase: Phase,
+    table: &Table,
+    now: u64,
+    messages: &mut Messages,
+) -> Result<Carried, TreeFault>
+    ensures ok { OnOk result (T.state tree.new ≡ left_by table.now now phase (T.state tree.old)) }
+    ensures new_messages { OnOk result (messages.new ≡ messages.old ++ messages_in table.now now phase (T.state tree.old)) }
+    ensures carried { IfOk result (λ c. c ≡ carried_of (falls_short table.now now phase (T.state tree.old))) }
+    ensures part { MessagesPart (messages_in table.now now phase (T.state tree.old)) messages.old messages.new }
+    ensures acted { Acted T.Tree (on_way table.now now phase (T.state tree.old)) (is_step_of table.now now phase (T.state tree.old))
+        (most_steps_of table.now now phase (T.state tree.old)) now tree.old tree.new result }
+    ensures went { HasGone T.Tree (phase_cut table.now now (refused result) phase (T.state tree.old))
+        now tree.old tree.new messages.old messages.new }
+    ensures mended { IsMendedBy (phase ∷ []) table.now now (T.state tree.old)
+        (drop (length (T.steps tree.old)) (T.steps tree.new)) }
+{
+    match phase {
+        Phase::Remove => remove_run(alloc, tree, table, now, messages),
+        Phase::Clean => {
+            clean_run(alloc, tree, table, now)?;
+            Ok(Carried::Whole)
+        }
+        Phase::Create => create_run(alloc, tree, table, now, messages),
+        Phase::Purge => purge_run(alloc, tree, table, now, messages),
+    }
+}

@@ -1,5 +1,0 @@
-use Rattle.pv_accounts_run.proofs.SameLaws.{put_accounted}
-use Rattle.pv_accounts_run.proofs.laws.a_run_stopped_after_putting_etc_is_mended.Goals as goal
-
-pub returns : goal.returns
-returns c = λ requests now later t u plain day some put. put_accounted t u put now later requests plain day some

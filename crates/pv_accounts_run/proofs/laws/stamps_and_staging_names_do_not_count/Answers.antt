@@ -1,5 +1,0 @@
-use Rattle.pv_accounts_run.proofs.SameLaws.{same_accounted}
-use Rattle.pv_accounts_run.proofs.laws.stamps_and_staging_names_do_not_count.Goals as goal
-
-pub returns : goal.returns
-returns c = λ requests now later t u plain day same. same_accounted t u same requests now later plain day

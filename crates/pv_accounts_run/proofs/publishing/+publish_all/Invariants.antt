@@ -1,5 +1,0 @@
-use Rattle.std.proofs.Common.{length}
-use Rattle.pv_accounts_run.proofs.publishing.+publish_all.Given as goal
-
-abbrev pub decreases-publish_all : goal.decreases-publish_all
-decreases-publish_all g l = length l.edits.now

@@ -1,5 +1,0 @@
-use Rattle.std.proofs.Common.{length}
-use Rattle.pv_accounts_run.proofs.sweeping.+sweep_files.Given as goal
-
-abbrev pub decreases-sweep_files : goal.decreases-sweep_files
-decreases-sweep_files g l = length l.paths.now

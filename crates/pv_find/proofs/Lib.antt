@@ -1,3 +1,0 @@
-pub mod FindingLaws
-pub mod WholeLaws
-pub mod OrderLaws

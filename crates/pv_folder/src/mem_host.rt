@@ -1,0 +1,216 @@
+//! A host in memory, which fails at planned calls.
+ghost use Rattle.std.specs.Prelude.{◌≡◌, ◌≤◌, ◌↔◌, true, Contains, Some, is_some, option_map, IfOk, OnOk, OnErr, IsErrOf};
+ghost use Rattle.pv_io.specs.Calls.{call_after};
+ghost use Rattle.pv_io.specs.Faults.{HasRisen};
+ghost use Rattle.pv_io.specs.Memory.{fresh};
+ghost use Rattle.pv_path.specs.Paths.{has_names};
+ghost use Rattle.pv_folder.specs.declared.host.HostFault.TheVariants.{Failed};
+ghost use Rattle.pv_folder.specs.Content.{IsContent, May, bytes_of, given, held, listing, spelled, within};
+ghost use Rattle.pv_folder.specs.Counts.{count_after};
+ghost use Rattle.pv_folder.specs.Content.Change.{MakeDir, RemoveDir, RemoveFile, Rename, WriteFile};
+ghost use Rattle.pv_folder.specs.Memory.{Becomes, content_of};
+
+use crate::host::{FileBytes, Host, HostFault, limited};
+use crate::item::HostList;
+use crate::plan::Plan;
+use crate::spelling::path_of;
+use crate::tree_host::{
+    file_bytes, listing_of, make_dir, remove_dir, remove_file, rename, write_file,
+};
+use pv_path::{Bytes, TreePath};
+use pv_tree::MemTree;
+use std::alloc::{AllocError, Global};
+
+/// A host over a tree in memory, which fails exactly at planned calls.
+///
+/// It holds the tree's directories, its files with their bytes, and each other object as one that it only names.
+#[derive(Drop)]
+pub struct MemHost {
+    tree: MemTree,
+    plan: Plan,
+}
+
+impl MemHost {
+    /// A host of this tree whose calls with the listed numbers fail, counted from 0.
+    pub fn new(content: MemTree, fails: Vec<u64>) -> MemHost
+        ensures { result ≡ record { tree = content; plan = fresh fails.items } }
+    {
+        MemHost {
+            tree: content,
+            plan: Plan::new(fails),
+        }
+    }
+
+    /// What it holds.
+    pub fn content(&self) -> &MemTree
+        ensures { result.now ≡ self.now.tree }
+    {
+        &self.tree
+    }
+}
+
+/// The path of bytes that spell names, as those of all that stands in a tree do.
+fn named_path(alloc: Global, bytes: &[u8]) -> Result<TreePath, AllocError>
+    requires { has_names (spelled bytes.now) ≡ true }
+    ensures { IfOk result (λ path. path ≡ spelled bytes.now) }
+{
+    match path_of(alloc, bytes)? {
+        Some(path) => Ok(path),
+        None => unreachable!(),
+    }
+}
+
+impl Host for MemHost {
+    ghost content = { λ h. Some (content_of h.tree.files) };
+
+    ghost faults = { λ h. h.plan.faults };
+
+    fn list(&mut self, alloc: Global, path: &[u8]) -> Result<Option<HostList>, HostFault>
+        ensures from_content { IfOk result (λ items. items ≡ listing (content_of self.old.tree.files) (spelled path.now)) }
+        ensures content { IsContent (held (content_of self.old.tree.files)) }
+        ensures kept { self.new.tree.files ≡ self.old.tree.files }
+        ensures cause { IsErrOf result Failed → HasRisen self.old.plan.faults self.new.plan.faults }
+        ensures never_falls { self.old.plan.faults ≤ self.new.plan.faults }
+        ensures count { self.new.plan.faults ≡ count_after result self.old.plan.faults }
+        ensures planned { IsErrOf result Failed ↔ Contains self.old.plan.fails self.old.plan.calls }
+        ensures counted { self.new.plan.calls ≡ call_after self.old.plan.calls }
+    {
+        self.plan.begin_call()?;
+        match path_of(alloc, path)? {
+            Some(path) => Ok(listing_of(alloc, &self.tree, &path)?),
+            None => Ok(None),
+        }
+    }
+
+    fn read_file(&mut self, alloc: Global, path: &[u8]) -> Result<Option<Vec<u8>>, HostFault>
+        ensures from_content { IfOk result (λ bytes.
+            option_map (λ b. b.items) bytes ≡ bytes_of (held (content_of self.old.tree.files) (spelled path.now))) }
+        ensures content { IsContent (held (content_of self.old.tree.files)) }
+        ensures kept { self.new.tree.files ≡ self.old.tree.files }
+        ensures cause { IsErrOf result Failed → HasRisen self.old.plan.faults self.new.plan.faults }
+        ensures never_falls { self.old.plan.faults ≤ self.new.plan.faults }
+        ensures count { self.new.plan.faults ≡ count_after result self.old.plan.faults }
+        ensures planned { IsErrOf result Failed ↔ Contains self.old.plan.fails self.old.plan.calls }
+        ensures counted { self.new.plan.calls ≡ call_after self.old.plan.calls }
+    {
+        self.plan.begin_call()?;
+        match path_of(alloc, path)? {
+            Some(path) => Ok(file_bytes(alloc, &self.tree, &path)?),
+            None => Ok(None),
+        }
+    }
+
+    fn read_within(
+        &mut self,
+        alloc: Global,
+        path: &[u8],
+        most: usize,
+    ) -> Result<Option<FileBytes>, HostFault>
+        ensures from_content { IfOk result (λ found.
+            option_map given found ≡ option_map (within most) (bytes_of (held (content_of self.old.tree.files) (spelled path.now)))) }
+        ensures content { IsContent (held (content_of self.old.tree.files)) }
+        ensures kept { self.new.tree.files ≡ self.old.tree.files }
+        ensures cause { IsErrOf result Failed → HasRisen self.old.plan.faults self.new.plan.faults }
+        ensures never_falls { self.old.plan.faults ≤ self.new.plan.faults }
+        ensures count { self.new.plan.faults ≡ count_after result self.old.plan.faults }
+        ensures planned { IsErrOf result Failed ↔ Contains self.old.plan.fails self.old.plan.calls }
+        ensures counted { self.new.plan.calls ≡ call_after self.old.plan.calls }
+    {
+        match self.read_file(alloc, path) {
+            Ok(Some(bytes)) => Ok(Some(limited(bytes, most))),
+            Ok(None) => Ok(None),
+            Err(fault) => Err(fault),
+        }
+    }
+
+    fn write_file(&mut self, path: &[u8], bytes: &[u8]) -> Result<(), HostFault>
+        requires { May (held (content_of self.old.tree.files)) (WriteFile (spelled path.now) bytes.now) }
+        ensures done { OnOk result (Becomes (WriteFile (spelled path.now) bytes.now) self.old.tree.files self.new.tree.files) }
+        ensures kept { OnErr result (self.new.tree.files ≡ self.old.tree.files) }
+        ensures cause { IsErrOf result Failed → HasRisen self.old.plan.faults self.new.plan.faults }
+        ensures never_falls { self.old.plan.faults ≤ self.new.plan.faults }
+        ensures count { self.new.plan.faults ≡ count_after result self.old.plan.faults }
+        ensures planned { IsErrOf result Failed ↔ Contains self.old.plan.fails self.old.plan.calls }
+        ensures counted { self.new.plan.calls ≡ call_after self.old.plan.calls }
+    {
+        self.plan.begin_call()?;
+        let alloc = self.plan.alloc();
+        let path = named_path(alloc, path)?;
+        let content = Bytes::copy_of(alloc, bytes)?;
+        write_file(alloc, &mut self.tree, path, content)
+    }
+
+    fn make_dir(&mut self, path: &[u8]) -> Result<(), HostFault>
+        requires { May (held (content_of self.old.tree.files)) (MakeDir (spelled path.now)) }
+        ensures done { OnOk result (Becomes (MakeDir (spelled path.now)) self.old.tree.files self.new.tree.files) }
+        ensures kept { OnErr result (self.new.tree.files ≡ self.old.tree.files) }
+        ensures cause { IsErrOf result Failed → HasRisen self.old.plan.faults self.new.plan.faults }
+        ensures never_falls { self.old.plan.faults ≤ self.new.plan.faults }
+        ensures count { self.new.plan.faults ≡ count_after result self.old.plan.faults }
+        ensures planned { IsErrOf result Failed ↔ Contains self.old.plan.fails self.old.plan.calls }
+        ensures counted { self.new.plan.calls ≡ call_after self.old.plan.calls }
+    {
+        self.plan.begin_call()?;
+        let path = named_path(self.plan.alloc(), path)?;
+        make_dir(&mut self.tree, path)
+    }
+
+    fn rename(&mut self, from: &[u8], to: &[u8]) -> Result<(), HostFault>
+        requires { May (held (content_of self.old.tree.files)) (Rename (spelled from.now) (spelled to.now)) }
+        ensures done { OnOk result (Becomes (Rename (spelled from.now) (spelled to.now)) self.old.tree.files self.new.tree.files) }
+        ensures kept { OnErr result (self.new.tree.files ≡ self.old.tree.files) }
+        ensures cause { IsErrOf result Failed → HasRisen self.old.plan.faults self.new.plan.faults }
+        ensures never_falls { self.old.plan.faults ≤ self.new.plan.faults }
+        ensures count { self.new.plan.faults ≡ count_after result self.old.plan.faults }
+        ensures planned { IsErrOf result Failed ↔ Contains self.old.plan.fails self.old.plan.calls }
+        ensures counted { self.new.plan.calls ≡ call_after self.old.plan.calls }
+    {
+        self.plan.begin_call()?;
+        let from = named_path(self.plan.alloc(), from)?;
+        let to = named_path(self.plan.alloc(), to)?;
+        rename(&mut self.tree, from, to)
+    }
+
+    fn replace_file(&mut self, from: &[u8], to: &[u8]) -> Result<(), HostFault>
+        requires { May (held (content_of self.old.tree.files)) (Rename (spelled from.now) (spelled to.now)) }
+        ensures done { OnOk result (Becomes (Rename (spelled from.now) (spelled to.now)) self.old.tree.files self.new.tree.files) }
+        ensures kept { OnErr result (self.new.tree.files ≡ self.old.tree.files) }
+        ensures cause { IsErrOf result Failed → HasRisen self.old.plan.faults self.new.plan.faults }
+        ensures never_falls { self.old.plan.faults ≤ self.new.plan.faults }
+        ensures count { self.new.plan.faults ≡ count_after result self.old.plan.faults }
+        ensures planned { IsErrOf result Failed ↔ Contains self.old.plan.fails self.old.plan.calls }
+        ensures counted { self.new.plan.calls ≡ call_after self.old.plan.calls }
+    {
+        self.rename(from, to)
+    }
+
+    fn remove_file(&mut self, path: &[u8]) -> Result<(), HostFault>
+        requires { May (held (content_of self.old.tree.files)) (RemoveFile (spelled path.now)) }
+        ensures done { OnOk result (Becomes (RemoveFile (spelled path.now)) self.old.tree.files self.new.tree.files) }
+        ensures kept { OnErr result (self.new.tree.files ≡ self.old.tree.files) }
+        ensures cause { IsErrOf result Failed → HasRisen self.old.plan.faults self.new.plan.faults }
+        ensures never_falls { self.old.plan.faults ≤ self.new.plan.faults }
+        ensures count { self.new.plan.faults ≡ count_after result self.old.plan.faults }
+        ensures planned { IsErrOf result Failed ↔ Contains self.old.plan.fails self.old.plan.calls }
+        ensures counted { self.new.plan.calls ≡ call_after self.old.plan.calls }
+    {
+        self.plan.begin_call()?;
+        let path = named_path(self.plan.alloc(), path)?;
+        remove_file(&mut self.tree, path)
+    }
+
+    fn remove_dir(&mut self, path: &[u8]) -> Result<(), HostFault>
+        requires { May (held (content_of self.old.tree.files)) (RemoveDir (spelled path.now)) }
+        ensures done { OnOk result (Becomes (RemoveDir (spelled path.now)) self.old.tree.files self.new.tree.files) }
+        ensures kept { OnErr result (self.new.tree.files ≡ self.old.tree.files) }
+        ensures cause { IsErrOf result Failed → HasRisen self.old.plan.faults self.new.plan.faults }
+        ensures never_falls { self.old.plan.faults ≤ self.new.plan.faults }
+        ensures count { self.new.plan.faults ≡ count_after result self.old.plan.faults }
+        ensures planned { IsErrOf result Failed ↔ Contains self.old.plan.fails self.old.plan.calls }
+        ensures counted { self.new.plan.calls ≡ call_after self.old.plan.calls }
+    {
+        self.plan.begin_call()?;
+        let path = named_path(self.plan.alloc(), path)?;
+        remove_dir(&mut self.tree, path)
+    }
+}

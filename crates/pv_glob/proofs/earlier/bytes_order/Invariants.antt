@@ -1,0 +1,8 @@
+use Rattle.std.proofs.Common.{◌≡◌, drop}
+use Rattle.std.specs.Ordering.{nat_cmp, on}
+use Rattle.std.specs.Cmp.Lexicographic.{slice_cmp}
+use Rattle.pv_glob.specs.Words.{rank}
+use Rattle.pv_glob.proofs.earlier.bytes_order.Given as goal
+
+abbrev pub invariant-loop-i : goal.invariant-loop-i
+invariant-loop-i l = slice_cmp (on rank nat_cmp) (drop l.i l.a) (drop l.i l.b) ≡ slice_cmp (on rank nat_cmp) l.a l.b

@@ -1,0 +1,42 @@
+//! Components that match no name together, told by their first bytes.
+ghost use Rattle.std.specs.Prelude.{◌≡◌, ℕ, List, true, false, not};
+ghost use Rattle.std.specs.List.{list_any};
+ghost use Rattle.pv_glob.specs.Matching.{component_matches, name_matches};
+ghost use Rattle.pv_glob.specs.Pairs.{is_many};
+
+use crate::element::{Component, Element};
+use crate::taker::is_many;
+
+/// Whether some element needs a byte.
+fn needs_byte(elements: &[Element]) -> bool
+    ensures { result ≡ list_any (λ element. not (is_many element)) elements.now }
+{
+    elements.iter().any(|element| !is_many(element))
+}
+
+/// Whether two components surely match no name together: they begin with the same bytes and then with different
+/// ones, or the one ends and the other does not. It takes no memory.
+pub(crate) fn are_apart(a: &[Element], b: &[Element]) -> bool
+    ensures { result ≡ true → (name : List ℕ) → component_matches a.now name ≡ true → component_matches b.now name ≡ false }
+{
+    let mut left = a;
+    let mut right = b;
+    loop {
+        if left.is_empty() {
+            return needs_byte(right);
+        }
+        if right.is_empty() {
+            return needs_byte(left);
+        }
+        match (left, right) {
+            ([Element::Byte(x), left_rest @ ..], [Element::Byte(y), right_rest @ ..]) => {
+                if x != y {
+                    return true;
+                }
+                left = left_rest;
+                right = right_rest;
+            }
+            _ => return false,
+        }
+    }
+}

@@ -1,6 +1,0 @@
-use Rattle.pv_host.proofs.Listing.{is_ordered-push}
-use Rattle.pv_host.proofs.item.HostList.push.Goals as goal
-
-pub invariant_of-self-2 : goal.invariant_of-self-2
-invariant_of-self-2 c =
-    rw c.in_ok-push.ensures.items (is_ordered-push c.self.inside.items.items c.args.item c.self.invariant (rw c.self.view_is c.requires))

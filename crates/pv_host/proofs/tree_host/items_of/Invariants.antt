@@ -1,7 +1,0 @@
-use Rattle.std.proofs.Common.{◌≡◌, map, take}
-use Rattle.pv_host.specs.Memory.{item_at}
-use Rattle.pv_host.proofs.tree_host.items_of.Given as goal
-
--- the items of the names gone through
-abbrev pub invariant-loop-name : goal.invariant-loop-name
-invariant-loop-name l = l.items ≡ map (item_at l.tree.files l.path) (take l.name-index l.name-items)

@@ -1,9 +1,0 @@
-use Rattle.pv_path.proofs.Tests.{on_ok}
-use Rattle.pv_host.proofs.Changing.{can_make, dir_made}
-use Rattle.pv_host.proofs.tree_host.make_dir.Goals as goal
-
-pub do_step-requires : goal.do_step-requires
-do_step-requires c = can_make c.args.tree.now.files c.args.path c.requires
-
-pub returns-clause-ok : goal.returns-clause-ok
-returns-clause-ok c = on_ok c.do_step.result (dir_made c.args.tree.now.files c.do_step.new.tree.files c.args.path) c.do_step.ensures.ok

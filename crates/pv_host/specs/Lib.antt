@@ -1,4 +1,0 @@
-pub mod Content
-pub mod Lists
-pub mod Memory
-pub mod Counts

@@ -1,6 +1,0 @@
-use Rattle.std.proofs.Common.{◌≡◌, ℕ, List, ◌++◌, drop, option_map}
-use Rattle.pv_meet.specs.Written.{written}
-use Rattle.pv_meet.proofs.literal.written.Given as goal
-
-abbrev pub invariant-loop-element : goal.invariant-loop-element
-invariant-loop-element l = option_map (λ (rest : List ℕ). l.bytes ++ rest) (written (drop l.element-index l.element-items)) ≡ written l.fn.component

@@ -1,5 +1,0 @@
-use Rattle.pv_metadata.proofs.Absorbing.{with_masked-own}
-use Rattle.pv_metadata.proofs.laws.a_mask_takes_nothing_from_its_own_mode.Goals as goal
-
-pub returns : goal.returns
-returns c = with_masked-own

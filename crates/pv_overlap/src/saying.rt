@@ -1,0 +1,182 @@
+//! What is said of a report.
+ghost use Rattle.std.specs.Prelude.{◌≡◌, ◌↔◌, ◌++◌, ◌∷◌, [], codes, map, true, unwrap_or, slice_get, IfOk, OnOk};
+ghost use Rattle.std.specs.Fmt.{decimal};
+ghost use Rattle.pv_text.specs.Lines.{is_line};
+ghost use Rattle.pv_text.specs.GivenMessages.{MessagesPart};
+ghost use Rattle.pv_table.specs.Repeatable.{IsRepeatable};
+ghost use Rattle.pv_overlap.specs.Reporting.{ListsReasons};
+ghost use Rattle.pv_overlap.specs.GivenMessages.{line_text, overlap_text, reason_text, report_messages, SaysRepeatable, shared_text, standing_text, unrepeatable_text, verdict};
+
+use crate::listing::{Report, Unrepeatable};
+use crate::pair::Pair;
+use pv_lines::{Line, LineList};
+use pv_path::{TreePath, print_path};
+use pv_table::Reason;
+use pv_text::{Messages, OneLine};
+use std::alloc::{AllocError, Global};
+
+/// The words for a reason.
+fn reason_text(reason: Reason) -> &'static [u8]
+    ensures text { result.now ≡ reason_text reason }
+    ensures line { is_line result.now ≡ true }
+{
+    match reason {
+        Reason::Append => b"append",
+        Reason::Source => b"source",
+        Reason::Below => b"below",
+        Reason::Input => b"input",
+        Reason::Mask => b"mask",
+    }
+}
+
+/// Where a line stands, `FILE:N`.
+pub fn place_text(alloc: Global, file: &OneLine, number: u32) -> Result<Vec<u8>, AllocError>
+    ensures text { IfOk result (λ text. text.items ≡ file.now ++ codes ":" ++ decimal number) }
+    ensures line { IfOk result (λ text. is_line text.items ≡ true) }
+{
+    let mut text = Vec::from_slice(alloc, file.as_slice())?;
+    let number = number.to_string(alloc)?;
+    text.extend_from_slice(b":")?;
+    text.extend_from_slice(number.as_bytes())?;
+    Ok(text)
+}
+
+/// Where a line stands, `FILE:N`; nothing past the last.
+fn line_text(alloc: Global, lines: &[Line], i: u32) -> Result<Vec<u8>, AllocError>
+    ensures text { IfOk result (λ text. text.items ≡ line_text lines.now i) }
+    ensures line { IfOk result (λ text. is_line text.items ≡ true) }
+{
+    match lines.get(i as usize) {
+        Some(line) => place_text(alloc, &line.place.file, line.place.number),
+        None => Ok(Vec::new(alloc)),
+    }
+}
+
+/// Where lines stand, each `FILE:N`.
+fn line_texts(alloc: Global, lines: &[Line]) -> Result<Messages, AllocError>
+    ensures { IfOk result (λ texts. texts ≡ map standing_text lines.now) }
+{
+    let mut texts = Messages::new(alloc);
+    for line in lines {
+        texts.push(&place_text(alloc, &line.place.file, line.place.number)?)?;
+    }
+    Ok(texts)
+}
+
+/// The text at a place; nothing past the last.
+fn text_at(texts: &Messages, i: u32) -> &[u8]
+    ensures text { result.now ≡ unwrap_or (slice_get texts.now i) [] }
+    ensures line { is_line result.now ≡ true }
+{
+    match texts.line(i as usize) {
+        Some(text) => text,
+        None => &[],
+    }
+}
+
+/// `overlap FILE:N FILE:N at PATH`.
+fn overlap_text(
+    alloc: Global,
+    first: &[u8],
+    second: &[u8],
+    path: &TreePath,
+) -> Result<Vec<u8>, AllocError>
+    requires first { is_line first.now ≡ true }
+    requires second { is_line second.now ≡ true }
+    ensures text { IfOk result (λ text. text.items ≡ shared_text first.now second.now path.now) }
+    ensures line { IfOk result (λ text. is_line text.items ≡ true) }
+{
+    let path = print_path(alloc, path)?;
+    let mut text = Vec::from_slice(alloc, b"overlap ")?;
+    text.extend_from_slice(first)?;
+    text.extend_from_slice(b" ")?;
+    text.extend_from_slice(second)?;
+    text.extend_from_slice(b" at ")?;
+    text.extend_from_slice(&path)?;
+    Ok(text)
+}
+
+/// `unrepeatable FILE:N REASON`.
+fn unrepeatable_text(
+    alloc: Global,
+    lines: &[Line],
+    found: &Unrepeatable,
+) -> Result<Vec<u8>, AllocError>
+    ensures text { IfOk result (λ text. text.items ≡ unrepeatable_text lines.now found.now) }
+    ensures line { IfOk result (λ text. is_line text.items ≡ true) }
+{
+    let line = line_text(alloc, lines, found.line)?;
+    let reason = reason_text(found.reason);
+    let mut text = Vec::from_slice(alloc, b"unrepeatable ")?;
+    text.extend_from_slice(&line)?;
+    text.extend_from_slice(b" ")?;
+    text.extend_from_slice(reason)?;
+    Ok(text)
+}
+
+/// The verdict on lines with these reasons, `repeatable` or `not repeatable`. It takes no memory.
+pub fn verdict(list: &[Unrepeatable]) -> &'static [u8]
+    ensures text { result.now ≡ verdict list.now }
+    ensures line { is_line result.now ≡ true }
+{
+    if list.is_empty() {
+        b"repeatable"
+    } else {
+        b"not repeatable"
+    }
+}
+
+/// Says which lines share a path. Where a line stands is printed once.
+fn say_overlaps(
+    alloc: Global,
+    lines: &[Line],
+    pairs: &[Pair],
+    messages: &mut Messages,
+) -> Result<(), AllocError>
+    ensures new_messages { OnOk result (messages.new ≡ messages.old ++ map (overlap_text lines.now) pairs.now) }
+    ensures part { MessagesPart (map (overlap_text lines.now) pairs.now) messages.old messages.new }
+{
+    let texts = line_texts(alloc, lines)?;
+    for pair in pairs {
+        let first = text_at(&texts, pair.first);
+        let second = text_at(&texts, pair.second);
+        messages.push(&overlap_text(alloc, first, second, &pair.path)?)?;
+    }
+    Ok(())
+}
+
+/// Says which lines have reasons.
+fn say_reasons(
+    alloc: Global,
+    lines: &[Line],
+    list: &[Unrepeatable],
+    messages: &mut Messages,
+) -> Result<(), AllocError>
+    ensures new_messages { OnOk result (messages.new ≡ messages.old ++ map (unrepeatable_text lines.now) list.now) }
+    ensures part { MessagesPart (map (unrepeatable_text lines.now) list.now) messages.old messages.new }
+{
+    for found in list {
+        messages.push(&unrepeatable_text(alloc, lines, found)?)?;
+    }
+    Ok(())
+}
+
+/// Says what a report on lines lists: each two lines that share a path, each line with each of its reasons, and whether
+/// there is none. The last message on a report of these lines is `repeatable` exactly where no line has a reason. After
+/// running out of memory the first of these messages were said, and no others.
+pub fn say_report(
+    alloc: Global,
+    lines: &LineList,
+    report: &Report,
+    messages: &mut Messages,
+) -> Result<(), AllocError>
+    ensures new_messages { OnOk result (messages.new ≡ messages.old ++ report_messages lines.now report.now) }
+    ensures part { MessagesPart (report_messages lines.now report.now) messages.old messages.new }
+    ensures verdict { OnOk result (ListsReasons lines.now report.now.unrepeatable → SaysRepeatable messages.new ↔ IsRepeatable lines.now) }
+{
+    say_overlaps(alloc, lines.as_slice(), report.pairs.as_slice(), messages)?;
+    let list = report.unrepeatable.as_slice();
+    say_reasons(alloc, lines.as_slice(), list, messages)?;
+    messages.push(verdict(list))?;
+    Ok(())
+}

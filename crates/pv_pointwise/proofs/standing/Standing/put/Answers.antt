@@ -1,6 +1,0 @@
-use Rattle.std.proofs.Common.{refl}
-use Rattle.pv_pointwise.proofs.StandingLaws.{insert-map}
-use Rattle.pv_pointwise.proofs.standing.Standing.put.Goals as goal
-
-pub returns : goal.returns
-returns c = rw (c.in_ok-_replaced.ensures.entries, insert-map, c.self.view_is) refl

@@ -1,6 +1,0 @@
-use Rattle.std.proofs.Common.{◌≡◌, take}
-use Rattle.pv_report.specs.Alike.{spelled}
-use Rattle.pv_report.proofs.alike.spelled.Given as goal
-
-abbrev pub invariant-loop-component : goal.invariant-loop-component
-invariant-loop-component l = l.text.items ≡ spelled (take l.component-index l.components)

@@ -1,6 +1,0 @@
-use Rattle.std.proofs.Common.{◌≡◌, take}
-use Rattle.pv_report.specs.Subjects.{heads_of}
-use Rattle.pv_report.proofs.asker.heads_of.Given as goal
-
-abbrev pub invariant-loop-reach : goal.invariant-loop-reach
-invariant-loop-reach l = l.heads ≡ heads_of (take l.reach-index l.reaches)

@@ -1,5 +1,0 @@
-use Rattle.pv_report.proofs.FirstLaws.{one_message_said}
-use Rattle.pv_report.proofs.laws.a_report_is_what_its_lines_give.Goals as goal
-
-pub returns : goal.returns
-returns c = one_message_said

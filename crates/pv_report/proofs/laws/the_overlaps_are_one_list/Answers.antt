@@ -1,5 +1,0 @@
-use Rattle.pv_report.proofs.FirstLaws.{one_overlaps}
-use Rattle.pv_report.proofs.laws.the_overlaps_are_one_list.Goals as goal
-
-pub returns : goal.returns
-returns c = one_overlaps

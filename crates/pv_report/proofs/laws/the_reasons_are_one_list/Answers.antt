@@ -1,5 +1,0 @@
-use Rattle.pv_report.proofs.ReportLaws.{one_report}
-use Rattle.pv_report.proofs.laws.the_reasons_are_one_list.Goals as goal
-
-pub returns : goal.returns
-returns c = one_report

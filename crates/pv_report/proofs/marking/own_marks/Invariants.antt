@@ -1,6 +1,0 @@
-use Rattle.std.proofs.Common.{◌≡◌, take}
-use Rattle.pv_report.specs.Marks.{own_marks}
-use Rattle.pv_report.proofs.marking.own_marks.Given as goal
-
-abbrev pub invariant-loop-i : goal.invariant-loop-i
-invariant-loop-i l = l.marks.items ≡ own_marks 0 (take l.i l.lines)

@@ -1,6 +1,0 @@
-use Rattle.std.proofs.Common.{◌≡◌, ◌++◌, map, take}
-use Rattle.pv_report.specs.GivenMessages.{overlap_text}
-use Rattle.pv_report.proofs.saying.say_overlaps.Given as goal
-
-abbrev pub invariant-loop-pair : goal.invariant-loop-pair
-invariant-loop-pair l = l.messages ≡ l.initial.messages ++ map (overlap_text l.lines) (take l.pair-index l.pairs)

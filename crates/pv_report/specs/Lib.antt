@@ -1,5 +1,0 @@
-pub mod Subjects
-pub mod Alike
-pub mod Marks
-pub mod Reporting
-pub mod GivenMessages

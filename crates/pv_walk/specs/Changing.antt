@@ -1,0 +1,56 @@
+-- One change at a time: what a node has of metadata already, and what a change may have left on the way (chown(2),
+-- chmod(2), acl(5)).
+use Rattle.std.specs.Prelude.{◌≡◌, ◌⊎◌}
+use Rattle.pv_path.specs.Paths.{Path}
+use Rattle.pv_acl.specs.declared.part.Part.{Part}
+use Rattle.pv_steps.specs.declared.node.Node.{Node}
+use Rattle.pv_steps.specs.declared.object.Object.{Object}
+use Rattle.pv_steps.specs.declared.step.Step.{Step}
+use Rattle.pv_steps.specs.declared.step.Step.TheVariants.{SetAcl, SetAttrs, SetLetters}
+use Rattle.pv_steps.specs.Trees.{Files, places}
+use Rattle.pv_steps.specs.Steps.{on_at}
+use Rattle.pv_steps.specs.Same.{object_states}
+use Rattle.pv_walk.specs.declared.object_state.Metadata.{Metadata}
+use Rattle.pv_walk.specs.SettingMetadata.{Lacks}
+
+-- the same base entries
+pub record SameBase (a b : Part) : Type 0 where
+  pub owner : a.owner ≡ b.owner
+  pub group : a.group ≡ b.group
+  pub other : a.other ≡ b.other
+
+-- a node has the owners of metadata
+pub record HasOwner (new : Metadata) (node : Node) : Type 0 where
+  pub uid : node.uid ≡ new.uid
+  pub gid : node.gid ≡ new.gid
+
+-- a node has the special bits and the base entries of metadata
+pub record HasMode (new : Metadata) (node : Node) : Type 0 where
+  pub special : node.special ≡ new.special
+  pub base : SameBase node.acl.access new.acl.access
+
+-- on the way of one change, stamps aside: it is not done yet, or done
+abbrev pub Changing : Path → (Object → Object) → Files → Files → Type 0
+Changing path change t u =
+    ((q : Path) → object_states (places u) q ≡ object_states (places t) q) ⊎ ((q : Path) → object_states (places u) q ≡ object_states (on_at path change (places t)) q)
+
+-- a step gives the object at a path a part of metadata that it lacks
+pub record Gives {A : Type 0} (part : Object → A) (new : A) (given : Step) (path : Path) (t : Files) (step : Step) : Type 0 where
+  pub is : step ≡ given
+  pub other : Lacks part new path t
+
+-- the ACL of metadata
+abbrev pub GivesAcl : Path → Metadata → Files → Step → Type 0
+GivesAcl path new t step = Gives (λ o. o.node.acl) new.acl (SetAcl path new.acl) path t step
+
+-- the extended attributes of metadata
+abbrev pub GivesAttrs : Path → Metadata → Files → Step → Type 0
+GivesAttrs path new t step = Gives (λ o. o.node.attrs) new.attrs (SetAttrs path new.attrs) path t step
+
+-- the letters of metadata
+abbrev pub GivesLetters : Path → Metadata → Files → Step → Type 0
+GivesLetters path new t step = Gives (λ o. o.node.letters) new.letters (SetLetters path new.letters) path t step
+
+-- an object with the owner, the mode and the ACL of metadata, stamps left as they are
+abbrev pub with_access_of : Metadata → Object → Object
+with_access_of new o = record o { node = record o.node { uid = new.uid; gid = new.gid; special = new.special; acl = new.acl } }

@@ -1,0 +1,108 @@
+//! Which of some paths can be taken away, each with all that stands below it.
+ghost use Rattle.std.specs.Prelude.{◌≡◌, ◌||◌, ◌&&◌, ◌==◌, not, [], ◌∷◌, ◌++◌, ℕ, length, reverse, true, is_some, IfOk, OnOk};
+ghost use Rattle.std.specs.List.{list_all};
+ghost use Rattle.std.specs.BTreeSet.{IsOrdered};
+ghost use Rattle.std.specs.List.Sorted.{IsNonDecreasingBy};
+ghost use Rattle.pv_path.specs.Paths.{Path, path_cmp, same_path};
+ghost use Rattle.pv_steps.specs.Trees.{places, names_below, IsTree};
+ghost use Rattle.pv_walk.specs.Listing.{times};
+ghost use Rattle.pv_walk.specs.Removal.{is_one_of};
+ghost use Rattle.pv_walk.specs.Whole.{goes_whole, AreDeepestFirst};
+
+use crate::order::in_order;
+use pv_path::{TreePath, child};
+use pv_steps::{Tree, is_directory};
+use std::alloc::{AllocError, Global};
+use std::collections::BTreeSet;
+
+/// Those of some present paths, but the root, of which all that stands at and below them is among the paths. It looks at
+/// the names in each of them once.
+pub fn whole_of<T: Tree>(
+    alloc: Global,
+    tree: &T,
+    paths: Vec<TreePath>,
+) -> Result<BTreeSet<TreePath>, AllocError>
+    requires { (q : Path) → is_one_of paths.items q ≡ true → is_some (places (T.state tree.now) q) ≡ true }
+    ensures { IfOk result (λ whole. (q : Path) → is_one_of whole.keys q ≡ goes_whole (is_one_of paths.items) (T.state tree.now) q) }
+{
+    let mut left = in_order(paths);
+    let mut whole = BTreeSet::new(alloc);
+    while let Some(path) = left.pop() {
+        add_whole(alloc, tree, path, &mut whole)?;
+    }
+    Ok(whole)
+}
+
+/// Adds a path other than the root whose children are all there.
+fn add_whole<T: Tree>(
+    alloc: Global,
+    tree: &T,
+    path: TreePath,
+    whole: &mut BTreeSet<TreePath>,
+) -> Result<(), AllocError>
+    ensures added { OnOk result ((q : Path) → is_one_of whole.new.keys q ≡ (is_one_of whole.old.keys q
+        || (same_path path q && (not (length path == 0)
+        && list_all (λ n. is_one_of whole.old.keys (path ++ n ∷ [])) (names_below (T.state tree.now) path))))) }
+    ensures tree { IsTree (T.state tree.now) }
+{
+    if has_children_in(alloc, tree, &path, whole)? && !path.is_empty() {
+        whole.insert(path)?;
+    }
+    Ok(())
+}
+
+/// Whether all that stands directly below a path is among some paths.
+fn has_children_in<T: Tree>(
+    alloc: Global,
+    tree: &T,
+    path: &TreePath,
+    whole: &BTreeSet<TreePath>,
+) -> Result<bool, AllocError>
+    ensures all { IfOk result (λ all. all
+        ≡ list_all (λ n. is_one_of whole.now.keys (path.now ++ n ∷ [])) (names_below (T.state tree.now) path.now)) }
+    ensures tree { IsTree (T.state tree.now) }
+{
+    if !is_directory(tree, path) {
+        return Ok(true);
+    }
+    let names = tree.list(alloc, path)?;
+    for name in names.as_slice() {
+        if !is_soon_among(whole, &child(alloc, path, name.bytes())?) {
+            return Ok(false);
+        }
+    }
+    Ok(true)
+}
+
+/// Whether a path is among some paths, of which it is often the first.
+fn is_soon_among(paths: &BTreeSet<TreePath>, path: &TreePath) -> bool
+    ensures { result ≡ is_one_of paths.now.keys path.now }
+{
+    match paths.first() {
+        Some(first) if first == path => true,
+        _ => is_among(paths, path),
+    }
+}
+
+/// Whether a path is among some paths.
+pub fn is_among(paths: &BTreeSet<TreePath>, path: &TreePath) -> bool
+    ensures { result ≡ is_one_of paths.now.keys path.now }
+{
+    paths.contains(path)
+}
+
+/// Some paths for taking them away from the last one on: the deepest first, those of one depth in byte order.
+pub fn deepest_last(alloc: Global, paths: BTreeSet<TreePath>) -> Result<Vec<TreePath>, AllocError>
+    ensures members { IfOk result (λ ordered. (q : Path) → times q ordered.items ≡ times q paths.keys) }
+    ensures deepest { IfOk result (λ ordered. IsNonDecreasingBy (λ path. length path) ordered.items) }
+    ensures order { IfOk result (λ ordered. AreDeepestFirst (reverse ordered.items)) }
+    ensures once { IsOrdered path_cmp paths }
+{
+    let mut left = paths;
+    let mut ordered = Vec::with_capacity(alloc, left.len())?;
+    while let Some(path) = left.pop_last() {
+        ordered.push(path)?;
+    }
+    ordered.sort_by_key(|path| path.len())?;
+    Ok(ordered)
+}
