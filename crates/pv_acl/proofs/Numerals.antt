@@ -1,14 +1,17 @@
 -- A text and the number of which it is the decimal spelling.
-use Rattle.std.proofs.Common.{◌≡◌, ◌≢◌, ℕ, ◌<◌, ◌^◌, Bool, true, false, ◌&&◌, ◌||◌, ◌==◌, nat_lt, List, [], ◌∷◌, length, get_or, Some, None, Result, Ok, Err, refl, sym, subst, ap, ◌∙◌, arith, if◌then◌else◌, ◌⊎◌, inl, inr}
+use Rattle.std.proofs.Common.{◌≡◌, ◌≢◌, ℕ, ◌<◌, ◌^◌, Bool, true, false, ◌&&◌, ◌||◌, ◌==◌, nat_lt, List, [], ◌∷◌, length, get_or, Some, None, Result, Ok, Err, refl, sym, subst, ap, ◌∙◌, arith, if◌then◌else◌, ◌⊎◌, inl, inr, ◌≤◌, ◌+◌, ◌*◌, take, Option, IfSome, IfNone}
 use Rattle.std.proofs.lemmas.Bool.{cases_lt}
 use Rattle.std.specs.Fmt.{decimal}
 use Rattle.std.specs.Str.{bytes_eq, IsUtf8}
-use Rattle.std.specs.Str.Parse.{digits_value, ParsesUnsigned, AllDigits}
+use Rattle.std.specs.Char.{digit_value}
+use Rattle.std.specs.Str.Parse.{digits_value, ParsesUnsigned, AllDigits, IsNumeral}
+use Rattle.std.proofs.lemmas.Int.Digits.{digits_value_more, digits_more}
+use Rattle.std.proofs.lemmas.List.{length-take}
 use Rattle.std.specs.Result.{result_ok, OkIff}
 use Rattle.std.proofs.lemmas.Bool.Decides.{nat_tests}
 use Rattle.std.proofs.lemmas.Slice.Eq.{bytes_eq-Decides}
-use Rattle.std.proofs.lemmas.Str.{IsUtf8-from_ascii}
-use Rattle.std.proofs.lemmas.Str.Parse.{IsNumeralModel, numerals_by_value, tells_digits, parse_plain}
+use Rattle.std.proofs.lemmas.Str.{IsUtf8-from_ascii, digit_value_digit}
+use Rattle.std.proofs.lemmas.Str.Parse.{IsNumeralModel, numerals_by_value, tells_digits, parse_plain, digit_at, digits_value_short}
 use Rattle.std.proofs.lemmas.Fmt.{decimal_is_IsNumeral, decimal-digits_value, decimal_digit, first_decimal, IsAscii-decimal}
 use Rattle.pv_acl.specs.Numbers.{number_of, odd_start}
 
@@ -36,7 +39,7 @@ number_of-none text never = by_tests (nat_lt (digits_value 10 text) 184467440737
     by_tests true small false same = refl
     by_tests false small b same = refl
 
--- a decimal spelling begins with a digit, and with a zero only where it is one
+-- a decimal spelling begins with a digit, and with a zero only if it is one
 first_digit : (n : ℕ) → n < 2 ^ 64 → (48 < get_or (decimal n) 0 0) ⊎ (decimal n ≡ 48 ∷ [])
 first_digit n small = elim (cases_lt 0 n) [ inl positive ↦ inl (first_decimal n positive small) | inr zero ↦ inr (let e : n ≡ 0 = omega arith in rw e (decimal_digit 0 (omega arith))) ]
 
@@ -95,3 +98,40 @@ parsed_is {E} text r o h = by_answer r (parse_plain own 64 text r h (plain_start
 -- a text that is not UTF-8 spells no number
 pub no_text_no_number : (text : List ℕ) → (IsUtf8 text → ⊥) → number_of text ≡ None
 no_text_no_number text none = number_of-none text (λ n small e. none (subst IsUtf8 e (IsUtf8-from_ascii (decimal n) (IsAscii-decimal n small))))
+
+-- ---- texts of at most 19 digits
+
+-- the digits up to a place, and one more
+pub record Goes (text : List ℕ) (i value digit : ℕ) : Type 0 where
+  pub bound : value < 10 ^ 18
+  pub digits : AllDigits 10 (take (i + 1) text)
+  pub next : value * 10 + digit ≡ digits_value 10 (take (i + 1) text)
+
+pub goes : (text : List ℕ) (i value digit : ℕ) → length text ≤ 19 → i < length text → AllDigits 10 (take i text) → value ≡ digits_value 10 (take i text)
+    → digit ≡ digit_value (get_or text i 0) → digit < 10 → Goes text i value digit
+goes text i value digit short within digits is there small =
+    let count : length (take i text) ≤ 18 = omega (arith, length-take i text) in
+    let below : digits_value 10 (take i text) < 10 ^ 18 = digits_value_short own (take i text) 18 digits count in
+    record {
+      bound = omega (arith, is, below);
+      digits = digits_more 10 text i within digits (subst (λ (d : ℕ). d < 10) there small);
+      next = ap (λ (v : ℕ). v * 10 + digit) is ∙ ap (λ (d : ℕ). digits_value 10 (take i text) * 10 + d) there ∙ sym (digits_value_more 10 text i within);
+    }
+
+-- a byte that is no digit
+pub no_numeral : (text : List ℕ) (i : ℕ) → i < length text → (digit_value (get_or text i 0) < 10 → ⊥) → IsNumeral 10 text → ⊥
+no_numeral text i within other numeral =
+    let at = digit_at text i numeral.1 within in
+    other (omega (arith, digit_value_digit (get_or text i 0) at, at.0, at.1))
+
+-- what such a text writes
+pub short_is : (text : List ℕ) (r : Option ℕ) → odd_start text ≡ false → length text ≤ 19
+    → IfSome r (λ n. IsNumeral 10 text × (n ≡ digits_value 10 text)) → IfNone r (IsNumeral 10 text → ⊥) → r ≡ number_of text
+short_is text (Some n) o short some none =
+    let numeral : IsNumeral 10 text = some.0 in
+    let below : digits_value 10 text < 10 ^ 19 = digits_value_short own text 19 numeral.1 short in
+    let fits : digits_value 10 text < 2 ^ 64 = omega (arith, below) in
+    ap (λ (m : ℕ). Some m) some.1
+    ∙ sym (number_of-decimal (digits_value 10 text) text fits (decimal-digits_value own text numeral.1 numeral.0 (zero_alone text o numeral.0) fits))
+short_is text None o short some none =
+    sym (number_of-none text (λ n small spelt. none (subst (λ (t : List ℕ). IsNumeral 10 t) spelt (decimal_is_IsNumeral n small).0)))

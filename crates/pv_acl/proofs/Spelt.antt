@@ -67,7 +67,7 @@ pub after_add : (part : Part) (es : List Entry) → part_after Add part es ≡ f
 after_add part [] = refl
 after_add part (e ∷ es) = refl
 
--- the entries of a part but for the base entries
+-- the entries of a part except for the base entries
 abbrev pub access_entries : Part → List Entry
 access_entries part = map (λ x. entry.Named x) part.named ++ mask_entries part.mask
 

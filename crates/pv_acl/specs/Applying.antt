@@ -11,7 +11,7 @@ use Rattle.pv_acl.specs.declared.part.Acl.{Acl}
 use Rattle.pv_acl.specs.NamedEntries.{put_named, is_perm, is_named}
 use Rattle.pv_acl.specs.Parts.{base_of}
 
--- a part with one entry put over what stands at its place
+-- a part with one entry put over the object at its place
 abbrev pub put_entry : Part → Entry → Part
 put_entry part (entry.Owner perm) = record part { owner = perm }
 put_entry part (entry.Group perm) = record part { group = perm }

@@ -41,11 +41,11 @@ is_perm_text text =
 abbrev pub perm_of : List ℕ → Option ℕ
 perm_of text = if is_perm_text text then Some (4 * times 114 text + 2 * times 119 text + times 120 text) else None
 
--- the ID that a text writes, else the ID of the name that it is
+-- the ID that a text writes, otherwise the ID of the name that it is
 abbrev pub id_or_name : (List ℕ → Option ℕ) → List ℕ → Option ℕ
 id_or_name lookup text = option_or (written_id text) (lookup text)
 
--- the place of a base entry where the name is empty, else that of a named one
+-- the place of a base entry where the name is empty, otherwise that of a named one
 abbrev pub named_tag : EntryTag → (ℕ → Who) → (List ℕ → Option ℕ) → List ℕ → Result EntryTag AclFault
 named_tag base who lookup [] = Ok base
 named_tag base who lookup (b ∷ bs) = place_for (id_or_name lookup (b ∷ bs))

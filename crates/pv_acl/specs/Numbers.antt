@@ -4,7 +4,7 @@ use Rattle.std.specs.Fmt.{decimal}
 use Rattle.std.specs.Str.{bytes_eq}
 use Rattle.std.specs.Str.Parse.{digits_value}
 
--- the number below 2 ^ 64 of which a text is the decimal spelling, where there is one
+-- the number below 2 ^ 64 of which a text is the decimal spelling, if there is one
 abbrev pub number_of : List ℕ → Option ℕ
 number_of text =
     let n = digits_value 10 text in

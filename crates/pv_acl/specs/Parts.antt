@@ -6,7 +6,7 @@ use Rattle.pv_acl.specs.declared.part.Part.{Part}
 use Rattle.pv_acl.specs.declared.part.Acl.{Acl}
 use Rattle.pv_acl.specs.NamedEntries.{union_with, is_ordered, is_empty, is_perm, is_named}
 
--- the mask that holds for a part: the explicit one, else the union of the permissions of the owning
+-- the mask that holds for a part: the explicit one, otherwise the union of the permissions of the owning
 -- group and of all named entries
 abbrev pub part_mask : Part → ℕ
 part_mask part = unwrap_or part.mask (union_with part.group part.named)

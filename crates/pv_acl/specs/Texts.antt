@@ -8,7 +8,7 @@ use Rattle.pv_acl.specs.declared.perm.Named.{Named}
 use Rattle.pv_acl.specs.declared.part.Part.{Part}
 use Rattle.pv_acl.specs.declared.part.Acl.{Acl}
 
--- a letter where its bit of a permission is set, else a dash
+-- a letter where its bit of a permission is set, otherwise a dash
 abbrev pub letter : ℕ → ℕ → ℕ → ℕ
 letter perm bit c = if bit_and perm bit == 0 then 45 else c
 
@@ -30,7 +30,7 @@ abbrev pub mask_texts : Option ℕ → List (List ℕ)
 mask_texts None = []
 mask_texts (Some perm) = (codes "m::" ++ perm_text perm) ∷ []
 
--- the entries of the access part but for the base entries, which stand in the mode
+-- the entries of the access part except for the base entries, which stand in the mode
 abbrev pub access_texts : Part → List (List ℕ)
 access_texts part = map named_text part.named ++ mask_texts part.mask
 
@@ -63,16 +63,16 @@ abbrev pub default_texts : Option Part → List (List ℕ)
 default_texts None = []
 default_texts (Some part) = map (λ text. codes "d:" ++ text) (part_texts part)
 
--- the text where there is one, else a dash
+-- the text if there is one, otherwise a dash
 abbrev pub or_dash : List ℕ → List ℕ
 or_dash [] = codes "-"
 or_dash (b ∷ bs) = b ∷ bs
 
--- the one text of an ACL: its entries with commas between them, and `-` where there are none
+-- the one text of an ACL: its entries with commas between them, and `-` if there are none
 abbrev pub acl_text : Acl → List ℕ
 acl_text acl = or_dash (join_with_byte 44 (access_texts acl.access ++ default_texts acl.default_part))
 
--- a text with one more entry, after a comma where it is not the first
+-- a text with one more entry, after a comma if it is not the first
 abbrev pub with_entry : List ℕ → List ℕ → List ℕ
 with_entry [] entry = entry
 with_entry (b ∷ bs) entry = (b ∷ bs) ++ 44 ∷ entry

@@ -1,11 +1,11 @@
-//! Why a text is no list of ACL entries.
+//! Why a text is not a list of ACL entries.
 ghost use Rattle.std.specs.Prelude.{◌≡◌};
 ghost use Rattle.pv_acl.specs.declared.acl_fault.AclFault.TheVariants.{Memory};
 
 use std::alloc::{AllocError, AllocFailed};
 use thiserror::Error;
 
-/// Why a text is no list of ACL entries, in the order in which an entry is checked.
+/// Why a text is not a list of ACL entries, in the order in which an entry is checked.
 #[derive(Clone, Copy, Debug, PartialEq, Eq, Error)]
 pub enum AclFault {
     /// The entry has no bytes.

@@ -7,12 +7,11 @@ use crate::line::{AclLine, EntryList, How};
 use crate::part::{Acl, Part};
 use std::alloc::{AllocError, Global};
 
-/// What the entries of a line make of an ACL: the access entries change the access part, and of a
-/// directory the default entries change the default part (tmpfiles.d(5), types a and A). A part
-/// without entries in the line stays. Base entries replace those of the part. Under `Replace` the
-/// named entries and the mask are exactly those of the line; under `Add` they are put over the old
-/// ones. An absent default part first takes the base entries of the access part as the line leaves
-/// it.
+/// The ACL that a line makes of another (tmpfiles.d(5), types a and A). The access entries change the access part, and
+/// the default entries change the default part of a directory. A part without entries in the line stays. Base entries
+/// replace those of the part. Under `Replace` the named entries and the mask are exactly those of the line; under `Add`
+/// they are put over the old ones. An absent default part first takes the base entries of the access part as the line
+/// leaves it.
 pub fn apply_entries(
     alloc: Global,
     old: &Acl,

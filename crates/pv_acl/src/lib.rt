@@ -24,4 +24,4 @@ pub use parse::parse_acl;
 pub use part::{Acl, Part, effective_mask};
 pub use perm::{Named, Perm, Who};
 pub use print::print_acl;
-pub use read::read_acl;
+pub use read::{decimal_id, read_acl};

@@ -9,6 +9,7 @@ ghost use Rattle.pv_acl.specs.contracts.perm.NamedPartialEq.TheImpl.Laws as name
 ghost use Rattle.pv_acl.specs.NamedEntries.{is_ordered, is_before, all_before, put_named, is_empty};
 
 use crate::perm::Named;
+use pv_path::RareList;
 use std::alloc::{AllocError, Global};
 use std::marker::Model;
 
@@ -16,7 +17,7 @@ use std::marker::Model;
 /// list.
 #[derive(Clone, Drop)]
 pub struct NamedList {
-    items: Vec<Named>,
+    items: RareList<Named>,
 }
 
 impl Model for NamedList {
@@ -26,9 +27,9 @@ impl Model for NamedList {
 
     ghost Value = { List Named };
 
-    ghost view = { λ l. l.items.items };
+    ghost view = { λ l. l.items };
 
-    ghost invariant = { λ l. is_ordered l.items.items ≡ true };
+    ghost invariant = { λ l. is_ordered l.items ≡ true };
 }
 
 impl NamedList {
@@ -37,7 +38,7 @@ impl NamedList {
         ensures { result ≡ [] }
     {
         NamedList {
-            items: Vec::new(alloc),
+            items: RareList::new(alloc),
         }
     }
 
@@ -59,7 +60,7 @@ impl NamedList {
     {
         let at = entry_tag_of(self.items.as_slice(), &item);
         if speaks_of(self.items.as_slice(), at, &item) {
-            self.items[at] = item;
+            self.items.set(at, item);
             return Ok(());
         }
         self.items.insert(at, item)?;
@@ -70,21 +71,21 @@ impl NamedList {
     pub fn len(&self) -> usize
         ensures { result ≡ length self.now }
     {
-        self.items.len()
+        self.items.as_slice().len()
     }
 
     /// Whether there is no entry.
     pub fn is_empty(&self) -> bool
         ensures { result ≡ is_empty self.now }
     {
-        self.items.is_empty()
+        self.items.as_slice().is_empty()
     }
 
-    /// The entry at a place counted from 0, or nothing past the end.
+    /// The entry at an index counted from 0, or nothing past the end.
     pub fn get(&self, i: usize) -> Option<&Named>
         ensures { option_copied result ≡ slice_get self.now i }
     {
-        self.items.get(i)
+        self.items.as_slice().get(i)
     }
 
     /// The entries as a slice.

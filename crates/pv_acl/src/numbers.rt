@@ -1,5 +1,7 @@
 //! Decimal numbers and IDs, in their one spelling.
-ghost use Rattle.std.specs.Prelude.{◌≡◌, ◌≤◌, IfSome};
+ghost use Rattle.std.specs.Prelude.{◌≡◌, ◌<◌, ◌≤◌, length, IfSome, IfNone};
+ghost use Rattle.std.specs.Char.{digit_value};
+ghost use Rattle.std.specs.Str.Parse.{digits_value, IsNumeral};
 ghost use Rattle.pv_acl.specs.Numbers.{number_of, odd_start, written_id};
 
 use std::str;
@@ -12,9 +14,40 @@ pub fn number(text: &[u8]) -> Option<u64>
     if has_odd_start(text) {
         return None;
     }
+    if text.len() <= 19 {
+        return short_number(text);
+    }
     match str::from_utf8(text) {
         Ok(text) => text.parse::<u64>().ok(),
         Err(_) => None,
+    }
+}
+
+/// The number that a text of at most 19 bytes writes, if it is one digit or more and nothing else: it is below 2^64.
+fn short_number(text: &[u8]) -> Option<u64>
+    requires { length text.now ≤ 19 }
+    ensures some { IfSome result (λ n. IsNumeral 10 text.now × (n ≡ digits_value 10 text.now)) }
+    ensures none { IfNone result (IsNumeral 10 text.now → ⊥) }
+{
+    if text.is_empty() {
+        return None;
+    }
+    let mut value: u64 = 0;
+    for byte in text {
+        let digit = digit_of(*byte)?;
+        value = value * 10 + digit;
+    }
+    Some(value)
+}
+
+/// The number that a decimal digit writes.
+fn digit_of(byte: u8) -> Option<u64>
+    ensures some { IfSome result (λ digit. (digit ≡ digit_value byte) × (digit < 10)) }
+    ensures none { IfNone result (digit_value byte < 10 → ⊥) }
+{
+    match byte {
+        b'0'..=b'9' => Some(u64::from(byte - b'0')),
+        _ => None,
     }
 }
 

@@ -133,7 +133,7 @@ fn perm_of(text: &[u8]) -> Option<Perm>
     })
 }
 
-/// The place of a user's entry: the owner's where there is no name.
+/// The tag of a user's entry. Without a name it is the owner's.
 fn user_tag<N: Names>(name: &[u8], names: &N) -> Result<EntryTag, AclFault>
     ensures value { result ≡ named_tag EntryTag.Owner (λ id. who.User id) (N.uid_named names.now) name.now }
     ensures allowed { IfOk result (λ place. is_entry_tag place ≡ true) }
@@ -150,7 +150,7 @@ fn user_tag<N: Names>(name: &[u8], names: &N) -> Result<EntryTag, AclFault>
     }
 }
 
-/// The place of a group's entry: the owning group's where there is no name.
+/// The tag of a group's entry. Without a name it is the owning group's.
 fn group_tag<N: Names>(name: &[u8], names: &N) -> Result<EntryTag, AclFault>
     ensures value { result ≡ named_tag EntryTag.Group (λ id. who.Group id) (N.gid_named names.now) name.now }
     ensures allowed { IfOk result (λ place. is_entry_tag place ≡ true) }

@@ -9,15 +9,15 @@ use crate::list::NamedList;
 use crate::perm::Perm;
 use std::alloc::{AllocError, Global};
 
-/// One part of an ACL: the base entries of the owner, the owning group and all others, the named
-/// entries, and the mask where an entry gives one (acl(5)).
+/// One part of an ACL (acl(5)): the base entries of the owner, the owning group and all others, the named entries, and
+/// the mask if there is one.
 #[derive(Clone, Drop, PartialEq, Eq)]
 pub struct Part {
     pub owner: Perm,
     pub group: Perm,
     pub other: Perm,
-    pub named: NamedList,
     pub mask: Option<Perm>,
+    pub named: NamedList,
 }
 
 /// An ACL: the access part, and for directories the part that new objects in it begin with.
@@ -37,8 +37,8 @@ impl Part {
             owner: Perm::digit_of(mode / 64),
             group: Perm::digit_of(mode / 8),
             other: Perm::digit_of(mode),
-            named: NamedList::new(alloc),
             mask: None,
+            named: NamedList::new(alloc),
         }
     }
 
@@ -50,13 +50,12 @@ impl Part {
             owner: self.owner,
             group: self.group,
             other: self.other,
-            named: NamedList::new(alloc),
             mask: None,
+            named: NamedList::new(alloc),
         }
     }
 
-    /// Gives a part the base entries of a mode; the named entries and the mask stay (chmod(2), but for
-    /// the mask).
+    /// Gives a part the base entries of a mode. The named entries stay, and unlike in chmod(2) the mask stays too.
     pub fn set_base(&mut self, mode: u16)
         ensures { self.new ≡ with_mode mode self.old }
     {
@@ -75,7 +74,7 @@ impl Part {
         512 * u16::from(special) + self.owner.times(64) + self.group.times(8) + self.other.times(1)
     }
 
-    /// Puts an entry over what stands at its place. After running out of memory the part is as before.
+    /// Puts an entry in place of the one with its tag. After running out of memory the part is as before.
     pub fn put(&mut self, entry: Entry) -> Result<(), AllocError>
         ensures ok { OnOk result (self.new ≡ put_entry self.old entry) }
         ensures err { OnErr result (self.new ≡ self.old) }
@@ -125,7 +124,7 @@ impl Acl {
     }
 }
 
-/// The mask that holds for a part: the explicit one, else the union of the permissions of the owning
+/// The mask that holds for a part: the explicit one, otherwise the union of the permissions of the owning
 /// group and of all named entries (acl(5)).
 pub fn effective_mask(part: &Part) -> Perm
     ensures { result ≡ part_mask part.now }

@@ -56,9 +56,9 @@ impl fmt::Display for Named {
     }
 }
 
-/// The one text of an ACL: named users, named groups and the mask of the access part, then the entries
-/// of the default part after `d:`, with commas between them; `-` where there is none of these. The
-/// base entries of the access part stand in the mode.
+/// The one text of an ACL, with commas between the entries. First come named users, named groups and the mask of the
+/// access part, then the entries of the default part after `d:`. The text is `-` if there is none of these. The base
+/// entries of the access part stand in the mode.
 pub fn print_acl(alloc: Global, acl: &Acl) -> Result<Vec<u8>, AllocError>
     ensures { IfOk result (λ text. text.items ≡ acl_text acl.now) }
 {
@@ -68,7 +68,7 @@ pub fn print_acl(alloc: Global, acl: &Acl) -> Result<Vec<u8>, AllocError>
     or_dash(alloc, text)
 }
 
-/// The text where there is one, else a dash.
+/// The text if there is one, otherwise a dash.
 fn or_dash(alloc: Global, text: String) -> Result<Vec<u8>, AllocError>
     ensures { IfOk result (λ bytes. bytes.items ≡ or_dash (string_bytes text)) }
 {
@@ -79,7 +79,7 @@ fn or_dash(alloc: Global, text: String) -> Result<Vec<u8>, AllocError>
     }
 }
 
-/// Adds the entries of an access part but for the base entries.
+/// Adds the entries of an access part, without the base entries.
 fn add_access(alloc: Global, text: &mut String, part: &Part) -> Result<(), AllocError>
     ensures { OnOk result (string_bytes text.new ≡ fold with_entry (string_bytes text.old) (access_texts part.now)) }
 {
@@ -90,7 +90,7 @@ fn add_access(alloc: Global, text: &mut String, part: &Part) -> Result<(), Alloc
     Ok(())
 }
 
-/// Adds the entries of a default part, where there is one.
+/// Adds the entries of a default part, if there is one.
 fn add_default(alloc: Global, text: &mut String, part: &Option<Part>) -> Result<(), AllocError>
     ensures { OnOk result (string_bytes text.new ≡ fold with_entry (string_bytes text.old) (default_texts part.now)) }
 {
@@ -180,7 +180,7 @@ fn add_tagged(alloc: Global, text: &mut String, tag: &str, perm: &Perm) -> Resul
     add(text, format!(in alloc; "{tag}{perm}")?.as_str())
 }
 
-/// Adds an entry, after a comma where it is not the first.
+/// Adds an entry, after a comma if it is not the first.
 fn add(text: &mut String, entry: &str) -> Result<(), AllocError>
     ensures { OnOk result (string_bytes text.new ≡ with_entry (string_bytes text.old) entry.now) }
 {

@@ -20,7 +20,7 @@ use crate::print::print_acl;
 use std::alloc::{AllocError, Global};
 
 /// The ACL whose one text is this field, with the base entries of this mode in its access part, and
-/// with a default part only for a directory. Nothing where there is no such ACL, so any other
+/// with a default part only for a directory. Nothing if there is no such ACL, so any other
 /// spelling is refused.
 pub fn read_acl(
     alloc: Global,
@@ -107,8 +107,8 @@ impl Names for Decimals {
     }
 }
 
-/// The ID that a text writes, 0 to 4294967294.
-fn decimal_id(text: &[u8]) -> Option<u32>
+/// The ID that a text writes, 0 to 4294967294 without leading zeros, or nothing if it writes none.
+pub fn decimal_id(text: &[u8]) -> Option<u32>
     ensures value { result ≡ decimal_id text.now }
     ensures small { IfSome result (λ id. id ≤ 4294967294) }
 {

@@ -61,7 +61,7 @@ name_cmp-refl = tied nat_list_cmp_total
 pub name_cmp-exact : (a b : List ℕ) → name_cmp a b ≡ Equal → a ≡ b
 name_cmp-exact = slice_cmp-IsAntisymmetric nat_cmp-IsAntisymmetric
 
--- the order finds two paths equal only where they are
+-- the order finds two paths equal only if they are
 pub path_cmp-exact : (p q : Path) → path_cmp p q ≡ Equal → p ≡ q
 path_cmp-exact = path_exact
 

@@ -6,7 +6,7 @@ use Rattle.pv_path.specs.Names.{staging_name}
 use Rattle.pv_path.specs.Paths.{Path, is_prefix, rest_under, staging_of}
 use Rattle.pv_path.proofs.PathLaws.{is_some-rest_under, path_ends, staging_of-push}
 
--- a path has a prefix exactly where a slice of names follows it
+-- a path has a prefix exactly if a slice of names follows it
 pub prefix_from_rest : (o : Option (Bor Path)) (p q : Path) → option_map (λ s. s.now) o ≡ rest_under p q → is_some o ≡ is_prefix p q
 prefix_from_rest None p q e = ap is_some e ∙ is_some-rest_under p q
 prefix_from_rest (Some s) p q e = ap is_some e ∙ is_some-rest_under p q

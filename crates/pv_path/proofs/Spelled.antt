@@ -16,7 +16,7 @@ use Rattle.pv_path.specs.declared.path_fault.PathFault.TheVariants as fault
 use Rattle.pv_path.proofs.PathLaws.{is_name-from}
 use Rattle.pv_path.proofs.Pieces.{are_names-split}
 
--- a name of at most 240 bytes that is no staging name
+-- a name of at most 240 bytes that is not a staging name
 abbrev pub is_spelled : List ℕ → Bool
 is_spelled name = is_name name && nat_le (length name) 240 && not (is_staging name)
 

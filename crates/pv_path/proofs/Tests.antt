@@ -102,7 +102,7 @@ get_or-texts [] i d = refl
 get_or-texts (p ∷ pieces) zero d = refl
 get_or-texts (p ∷ pieces) (suc i) d = get_or-texts pieces i d
 
--- some item passes exactly where a first one is found
+-- some item passes exactly if a first one is found
 pub list_any-find : {A : Type 0} (test : A → Bool) (xs : List A) → list_any test xs ≡ is_some (find test xs)
 list_any-find test [] = refl
 list_any-find {A} test (x ∷ xs) = by_test (test x) (list_any-find test xs)

@@ -4,3 +4,4 @@ pub mod Printing
 pub mod Parsing
 pub mod Results
 pub mod ShortBytes
+pub mod Rare

@@ -36,7 +36,7 @@ same_path = pointwise same_bytes
 pub same_path-decides : (p q : Path) → Decides (same_path p q) (p ≡ q)
 same_path-decides = pointwise_decides bytes_decides
 
--- what a path has after a prefix, or nothing where it does not begin so
+-- what a path has after a prefix, or nothing if it does not begin so
 abbrev pub rest_under : Path → Path → Option Path
 rest_under [] path = Some path
 rest_under (name ∷ prefix) [] = None

@@ -27,7 +27,7 @@ is_plain_but hidden b = is_plain b && not (list_any (λ h. h == b) hidden)
 abbrev pub printed : List ℕ → List ℕ
 printed bytes = printed_by is_plain bytes
 
--- `/` for the root, else `/` and the printed name for each name
+-- `/` for the root, otherwise `/` and the printed name for each name
 abbrev pub printed_path : Path → List ℕ
 printed_path [] = 47 ∷ []
 printed_path (name ∷ path) = flat_map (λ n. 47 ∷ printed n) (name ∷ path)

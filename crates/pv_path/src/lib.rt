@@ -7,6 +7,7 @@ mod parse;
 mod path;
 mod path_fault;
 mod print;
+mod rare;
 mod relate;
 mod sequence;
 mod short_bytes;
@@ -17,6 +18,7 @@ pub use parse::parse_path;
 pub use path::TreePath;
 pub use path_fault::PathFault;
 pub use print::{add_plain, add_printed, add_printed_but, is_plain, print_bytes, print_path};
+pub use rare::RareList;
 pub use relate::{child, has_staging, is_prefix, names_under, parent, rebase, staging};
 pub use sequence::Sequence;
 

@@ -81,7 +81,7 @@ impl TreePath {
         self.names.is_empty()
     }
 
-    /// The name at a place counted from 0 below the root, or nothing past the end.
+    /// The name at an index counted from 0 below the root, or nothing past the end.
     pub fn get(&self, i: usize) -> Option<&Name>
         ensures { option_copied result ≡ slice_get self.now i }
     {

@@ -5,7 +5,7 @@ ghost use Rattle.pv_path.specs.declared.path_fault.PathFault.TheVariants.{Memory
 use std::alloc::AllocError;
 use thiserror::Error;
 
-/// Why a text is no path, in the order in which the checks are made.
+/// Why a text is not a path, in the order in which the checks are made.
 #[derive(Clone, Copy, Debug, PartialEq, Eq, Error)]
 pub enum PathFault {
     /// The text does not begin with a slash.

@@ -6,7 +6,7 @@ ghost use Rattle.pv_path.specs.Printing.{hex_digit, is_plain_but, printed, print
 use crate::path::TreePath;
 use std::alloc::{AllocError, Global};
 
-/// A path as images and messages print it: `/` for the root, else `/` and the printed name for each name.
+/// A path as images and messages print it: `/` for the root, otherwise `/` and the printed name for each name.
 pub fn print_path(alloc: Global, path: &TreePath) -> Result<Vec<u8>, AllocError>
     ensures { IfOk result (λ text. text.items ≡ printed_path path.now) }
 {
@@ -21,8 +21,8 @@ pub fn print_path(alloc: Global, path: &TreePath) -> Result<Vec<u8>, AllocError>
     Ok(text)
 }
 
-/// Bytes as images and messages print them: those from 0x21 to 0x7E other than the backslash as they
-/// are, and every other byte as `\x` and two lower case hexadecimal digits.
+/// Prints bytes as images and messages have them. Bytes from 0x21 to 0x7E other than the backslash stand as they are.
+/// Every other byte is `\x` and two lower case hexadecimal digits.
 pub fn print_bytes(alloc: Global, bytes: &[u8]) -> Result<Vec<u8>, AllocError>
     ensures { IfOk result (λ text. text.items ≡ printed bytes.now) }
 {

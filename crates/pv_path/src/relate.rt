@@ -34,7 +34,7 @@ pub fn is_prefix(a: &TreePath, b: &TreePath) -> bool
     names_under(a.names(), b.names()).is_some()
 }
 
-/// The names that follow a prefix in a path, or nothing where the path does not begin so.
+/// The names that follow a prefix in a path, or nothing if the path does not begin so.
 /// It takes no memory.
 pub fn names_under<'a>(prefix: &[Name], path: &'a [Name]) -> Option<&'a [Name]>
     ensures { option_map (λ s. s.now) result ≡ rest_under prefix.now path.now }

@@ -59,7 +59,7 @@ impl<T> Sequence<T> {
         self.items.is_empty()
     }
 
-    /// The item at a place counted from 0, or nothing past the end.
+    /// The item at an index counted from 0, or nothing past the end.
     pub fn get(&self, i: usize) -> Option<&T>
         ensures { option_copied result ≡ slice_get self.now i }
     {

@@ -32,10 +32,6 @@ never_counted (Ok x) h n = refl
 never_counted (Err Failed) h n = absurd (h refl)
 never_counted (Err Memory) h n = refl
 
--- an answer that tells running out of memory refuses nothing
-pub unrefused : {A : Type 0} (r : Result A TreeFault) → IsErrOf r Memory → refused r ≡ 0
-unrefused {A} r memory = ap (λ (v : Result A TreeFault). refused v) memory
-
 -- nor does the answer that `?` makes of running out of memory
 pub no_memory : {A : Type 0} (r : Result A TreeFault) → IsErrAnd r (λ e. e ≡ Memory) → refused r ≡ 0
 no_memory (Ok x) h = absurd h
@@ -48,7 +44,7 @@ not_failed (Ok x) none h = cc
 not_failed (Err Failed) none h = cc
 not_failed (Err Memory) none h = cc
 
--- an answer is Failed exactly where it refuses a step
+-- an answer is Failed exactly if it refuses a step
 pub failed_refuses : {A : Type 0} (r : Result A TreeFault) → IsErrOf r Failed → refused r ≡ 1
 failed_refuses {A} r failed = ap (λ (v : Result A TreeFault). refused v) failed
 

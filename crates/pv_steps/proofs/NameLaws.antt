@@ -98,7 +98,7 @@ names_are path n (k ∷ ks) = by (names_are path n ks) (child_name path k) refl
         let one : eq_by_cmp name_cmp n m ≡ eq_by_cmp path_cmp (path ++ n ∷ []) k = ap is_eq (sym (path_cmp-children path n m)) ∙ ap (eq_by_cmp path_cmp (path ++ n ∷ [])) (sym (child_name-Some path k m at)) in
         ap (λ b. b || list_any (eq_by_cmp name_cmp n) (filter_map (child_name path) ks)) one ∙ ap (λ b. eq_by_cmp path_cmp (path ++ n ∷ []) k || b) rest
 
--- a name is in a directory exactly where something stands at the path and the name
+-- a name is in a directory exactly if something stands at the path and the name
 pub names_below-are : (files : Files) (path : Path) (n : List ℕ) → list_any (eq_by_cmp name_cmp n) (names_below files path) ≡ is_some (places files (path ++ n ∷ []))
 names_below-are files path n = names_are path n (fin.keys files) ∙ sym (fin.contains_key-keys files (path ++ n ∷ []))
 

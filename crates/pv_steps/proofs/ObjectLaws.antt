@@ -93,14 +93,6 @@ module _ (now : ℕ) (fits : now < 2 ^ 64) where
   pub IsObject-with_mode : (mode : ℕ) (o : Object) → mode ≤ 4095 → (o.node.kind ≡ Link → ⊥) → IsObject o → IsObject (with_mode mode now o)
   IsObject-with_mode mode o is_perm-digit real h = record { payload = h.payload; bytes = h.bytes; numbers = h.numbers; special = small_special mode is_perm-digit; owner = h.owner; acl = is_acl-with_mode mode o.node.acl h.acl; kind_acl = acl_fits o.node.kind (special_of mode) _ real (default_of o.node.kind o.node.special o.node.acl real h.kind_acl); stamps = record { access = h.stamps.access; birth = h.stamps.birth; change = fits; modify = h.stamps.modify }; attrs = h.attrs; letters = h.letters }
 
-no_numbers : (kind : Kind) → (kind ≡ CharDevice → ⊥) → (kind ≡ BlockDevice → ⊥) → NumbersFit kind 0 0
-no_numbers Directory c b = (refl, refl)
-no_numbers File c b = (refl, refl)
-no_numbers Link c b = (refl, refl)
-no_numbers Fifo c b = (refl, refl)
-no_numbers CharDevice c b = absurd (c refl)
-no_numbers BlockDevice c b = absurd (b refl)
-
 pub no_attrs : (kind : Kind) → AttrsFit kind []
 no_attrs Directory = refl
 no_attrs File = refl
@@ -133,7 +125,7 @@ IsObject-fresh kind mode payload major minor now fits is_perm-digit p b n a = re
   letters = no_letters kind;
 }
 
--- ---- objects that are the same but for stamps
+-- ---- objects that are the same except for timestamps
 
 pub directory_is : (kind : Kind) → is_directory kind ≡ true → kind ≡ Directory
 directory_is Directory e = refl

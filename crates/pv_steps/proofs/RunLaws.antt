@@ -73,15 +73,8 @@ module _ (P : Files → Type 0) (Q : Step → Type 0) (now : ℕ) where
         gives = all_append Q a.steps b.steps a.gives b.gives;
       }
 
-  pub ran_start : {t : Files} {h : List Step} {u : Files} {k : List Step} → Ran P Q now t h u k → P t
-  ran_start {t} r = along_start P t r.steps now r.along
-
   pub ran_end : {t : Files} {h : List Step} {u : Files} {k : List Step} → Ran P Q now t h u k → P u
   ran_end {t} r = subst P (sym r.reached) (along_end P t r.steps now r.along)
-
-  -- what holds after each number of its steps
-  pub ran_prefix : {t : Files} {h : List Step} {u : Files} {k : List Step} → (r : Ran P Q now t h u k) → (j : ℕ) → P (after_all t (take j r.steps) now)
-  ran_prefix {t} r j = along_prefix P t r.steps now j r.along
 
 -- what follows from P at each moment, and from Q of each step
 pub ran_weaken : (P P' : Files → Type 0) (Q Q' : Step → Type 0) (now : ℕ) → ((u : Files) → P u → P' u) → ((s : Step) → Q s → Q' s)

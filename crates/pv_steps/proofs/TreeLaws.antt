@@ -39,10 +39,6 @@ push_nonempty : (path : Path) (name : List ℕ) → path ++ name ∷ [] ≢ []
 push_nonempty [] name e = cc
 push_nonempty (n ∷ path) name e = cc
 
-append_nonempty : (path : Path) (name : List ℕ) (rest : Path) → path ++ name ∷ rest ≢ []
-append_nonempty [] name rest e = cc
-append_nonempty (n ∷ path) name rest e = cc
-
 kind_of-on : (f : Object → Object) → ((o : Object) → (f o).node.kind ≡ o.node.kind) → (o : Option Object) → kind_of (option_map f o) ≡ kind_of o
 kind_of-on f keeps None = refl
 kind_of-on f keeps (Some o) = ap Some (keeps o)
@@ -165,7 +161,7 @@ module _ (path : Path) (t : Places) (tree : IsTreeIn t) where
   pub IsTreeIn-made : (now : ℕ) (o : Object) → now < 2 ^ 64 → HasRoom t path → has_names path ≡ true → IsObject o → IsTreeIn (made now path o t)
   IsTreeIn-made now o fits room named whole = IsTreeIn-touched now path (put_at path (Some o) t) fits (IsTreeIn-put o room named whole)
 
-  -- an object that is no directory has nothing below it
+  -- an object that is not a directory has nothing below it
   pub childless_object : IsOther Directory t path → (q : Path) → IsPresentIn t q → q ≢ [] → parent_of q ≢ path
   childless_object other q h nonempty e = other.1 (subst (λ p. kind_of (t p) ≡ Some Directory) e (tree.parents q h nonempty))
 
@@ -256,9 +252,6 @@ module _ (now : ℕ) (from to : Path) (t : Places) (tree : IsTreeIn t) (fits : n
             let dir = directory_above t tree (from ++ ends.0) ends.1 [] below in
             subst (λ p. IsKindIn Directory (moved now from to t) p) (sym up) (ap kind_of (moved_under (to ++ ends.0) ends.0 (rest_under-append to ends.0)) ∙ kind_carried ends.0 ∙ dir)
       ]
-
-  present_else : (q : Path) → rest_under to q ≡ None → is_prefix from q ≡ false → is_some (moved now from to t q) ≡ is_some (t q)
-  present_else q e h = ap is_some (moved_else q e h) ∙ is_some-touched now from (touched now to t) q ∙ is_some-touched now to t q
 
   -- what is present after the move was carried, or stood elsewhere
   moved_cases : (q : Path) → IsPresentIn (moved now from to t) q

@@ -14,7 +14,7 @@ use Rattle.pv_steps.specs.Counting.{refused, faults_after}
 use Rattle.pv_steps.specs.Acting.{Tried, Acted}
 use Rattle.pv_steps.specs.Trying.{CanAll, TriedAll}
 use Rattle.pv_steps.proofs.RunLaws.{after_all-append}
-use Rattle.pv_steps.proofs.ActingLaws.{Asks, Moves, not_failed, well}
+use Rattle.pv_steps.proofs.ActingLaws.{Asks, Moves, well}
 
 -- ---- lists done from their end
 
@@ -28,7 +28,7 @@ reverse-first s back = reverse-append (s ∷ []) back
 
 -- ---- steps tried on the way
 
--- a front part of some steps is done, none was refused, and the rest may be asked for
+-- a prefix of some steps is done, none was refused, and the rest may be asked for
 pub record Trying {S : Type 0} (tree : Ghosts S) (steps left : List Step) (now : ℕ) (old new : S) : Type 0 where
   pub done : List Step
   pub parts : done ++ left ≡ steps
@@ -44,18 +44,6 @@ fits_more [] s h f = (f, tt)
 fits_more (d ∷ done) s h f = (h.0, fits_more done s h.1 f)
 
 module _ {S : Type 0} (tree : Ghosts S) (moves : Moves tree) where
-  pub trying_start : (steps : List Step) (now : ℕ) (a : S) → CanAll (tree.state a) steps now → Trying tree steps steps now a a
-  trying_start steps now a can = record {
-    done = [];
-    parts = refl;
-    state = refl;
-    recorded = sym (append-nil (tree.steps a));
-    fits = tt;
-    reaches = moves.stays a;
-    counted = refl;
-    can = can;
-  }
-
   -- one step more is done
   pub trying_next : (steps left : List Step) (s : Step) (now : ℕ) (a b c : S) → Trying tree steps (s ∷ left) now a b → Tried tree s now b c well → Trying tree steps left now a c
   trying_next steps left s now a b c t last = record {
@@ -67,22 +55,6 @@ module _ {S : Type 0} (tree : Ghosts S) (moves : Moves tree) where
     reaches = moves.goes_on a b c t.reaches last.reaches;
     counted = last.counted ∙ t.counted;
     can = subst (λ u. CanAll u left now) (sym last.state) t.can.1;
-  }
-
-  -- all of them are done
-  pub trying_end : (steps : List Step) (now : ℕ) (a b : S) → Trying tree steps [] now a b → TriedAll tree steps now a b well
-  trying_end steps now a b t = record {
-    done = t.done;
-    left = [];
-    parts = t.parts;
-    state = t.state;
-    recorded = t.recorded;
-    fits = t.fits;
-    whole = refl;
-    short = tt;
-    reaches = t.reaches;
-    counted = t.counted;
-    last = λ h. absurd (not_failed well refl h);
   }
 
   -- one step is not done, and its fault is passed on by `?`

@@ -1,6 +1,6 @@
 -- Calls that change a tree by steps: how many steps a call has asked for, what one step tried leaves, and what every call
 -- that goes by steps says of the tree before it, the tree after it, and its answer (this project's own).
-use Rattle.std.specs.Prelude.{◌≡◌, ℕ, ◌+◌, ◌-◌, ◌≤◌, List, [], ◌∷◌, ◌++◌, length, Result, OnOk, OnErr, IsErrOf}
+use Rattle.std.specs.Prelude.{◌≡◌, ℕ, ◌+◌, ◌-◌, ◌≤◌, List, [], ◌∷◌, ◌++◌, length, drop, Result, OnOk, OnErr, IsErrOf}
 use Rattle.pv_steps.specs.declared.step.Step.{Step}
 use Rattle.pv_steps.specs.declared.tree.Tree.{Ghosts}
 use Rattle.pv_steps.specs.declared.tree.TreeFault.{TreeFault}
@@ -11,6 +11,10 @@ use Rattle.pv_steps.specs.Trees.{Files}
 use Rattle.pv_steps.specs.Steps.{StepFits, after}
 use Rattle.pv_steps.specs.Runs.{Ran}
 
+-- the steps that a call has done: those that the tree has recorded since
+abbrev pub steps_done : {S : Type 0} → Ghosts S → S → S → List Step
+steps_done tree old new = drop (length (tree.steps old)) (tree.steps new)
+
 -- how many steps a call has asked for: those that were done, and one more where the tree refused it
 abbrev pub asked : {A : Type 0} → Result A TreeFault → List Step → List Step → ℕ
 asked r old new = (length new - length old) + refused r
@@ -19,7 +23,7 @@ asked r old new = (length new - length old) + refused r
 abbrev pub IsLast : {S A : Type 0} → Ghosts S → S → Result A TreeFault → Type 0
 IsLast tree new r = IsErrOf r Failed → tree.refused_at new ≡ length (tree.steps new)
 
--- one step was done and recorded, or nothing where the answer is a fault, and the tree counted a fault exactly where it
+-- one step was done and recorded, or nothing if the answer is a fault, and the tree counted a fault exactly if it
 -- refused the step; `tree` is what trees of this type tell of themselves
 pub record Tried {S : Type 0} (tree : Ghosts S) (step : Step) (now : ℕ) (old new : S) (r : Result (Unit {0}) TreeFault) : Type 0 where
   pub state : OnOk r (tree.state new ≡ after (tree.state old) step now)
@@ -32,7 +36,7 @@ pub record Tried {S : Type 0} (tree : Ghosts S) (step : Step) (now : ℕ) (old n
   pub last : IsLast tree new r
 
 -- a call went by steps at one moment: P holds of the tree at every moment and Q of each step, at most so many steps were
--- asked for, and the tree refused one, the last of them, where the answer is Failed, else none: its count of faults tells
+-- asked for, and the tree refused one, the last of them, where the answer is Failed, otherwise none: its count of faults tells
 pub record Acted {S A : Type 0} (tree : Ghosts S) (P : Files → Type 0) (Q : Step → Type 0) (most now : ℕ) (old new : S) (r : Result A TreeFault) : Type 0 where
   pub ran : Ran P Q now (tree.state old) (tree.steps old) (tree.state new) (tree.steps new)
   pub bound : asked r (tree.steps old) (tree.steps new) ≤ most

@@ -6,7 +6,7 @@ use Rattle.pv_acl.specs.Ordered.{all_before_by, is_ordered_by, put_by}
 use Rattle.pv_path.specs.Names.{name_cmp}
 use Rattle.pv_steps.specs.declared.attr.Attr.{Attr}
 
--- the bytes of a name but for the first and the last
+-- the bytes of a name except for the first and the last
 abbrev pub inner_bytes : List ℕ → List ℕ
 inner_bytes name = drop 1 (take (length name - 1) name)
 

@@ -1,4 +1,4 @@
--- What reading can see of what stands at a path, and which paths a step may bring, take away or rewrite (this
+-- What reading can see of the object at a path, and which paths a step may bring, take away or rewrite (this
 -- project's own).
 use Rattle.std.specs.Prelude.{◌≡◌, ℕ, Bool, true, false, ◌||◌, List, [], ◌∷◌, Option, option_map, ⊤}
 use Rattle.pv_path.specs.Paths.{Path, same_path, is_prefix}
@@ -13,7 +13,7 @@ use Rattle.pv_steps.specs.Steps.{after}
 abbrev pub content_of : Option Object → Option (Kind × List ℕ)
 content_of o = option_map (λ (x : Object). (x.node.kind, x.payload)) o
 
--- whether a step may bring, take away or rewrite what stands at a path
+-- whether a step may bring, take away or rewrite the object at a path
 abbrev pub alters : Step → Path → Bool
 alters (MakeDir path) q = same_path path q
 alters (MakeFile path) q = same_path path q
@@ -31,7 +31,7 @@ alters (Rename from to) q = is_prefix from q || is_prefix to q
 alters (Unlink path) q = same_path path q
 alters (RemoveDir path) q = same_path path q
 
--- a step takes away what stands at one of some paths
+-- a step takes away the object at one of some paths
 abbrev pub Removes : (Path → Bool) → Step → Type 0
 Removes inside (Unlink path) = inside path ≡ true
 Removes inside (RemoveDir path) = inside path ≡ true

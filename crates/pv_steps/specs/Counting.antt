@@ -4,7 +4,7 @@ use Rattle.pv_io.specs.Faults.{fault_after}
 use Rattle.pv_steps.specs.declared.tree.TreeFault.{TreeFault}
 use Rattle.pv_steps.specs.declared.tree.TreeFault.TheVariants.{Failed}
 
--- one where the tree refused a step, else none
+-- one where the tree refused a step, otherwise none
 abbrev pub refused : {A : Type 0} → Result A TreeFault → ℕ
 refused (Err Failed) = 1
 refused r = 0

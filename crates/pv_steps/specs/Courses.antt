@@ -16,7 +16,7 @@ use Rattle.pv_steps.specs.Doing.{Doing, after_each, messages_for_each, one_is_re
 use Rattle.pv_text.specs.GivenMessages.{MessagesPart}
 
 -- something that is done over a tree: what it leaves, says and takes when it is whole; what it may have left at each
--- moment, stamps and staging names aside; its steps; and, where it was cut short at a moment by so many refused steps,
+-- moment, timestamps and staging names aside; its steps; and, where it was cut short at a moment by so many refused steps,
 -- which steps it has done from a tree on, and what it has said
 pub record Course (A : Type 0) : Type 1 where
   pub whole : Doing A
@@ -25,7 +25,7 @@ pub record Course (A : Type 0) : Type 1 where
   pub cut : ℕ → ℕ → A → Files → List Step → List (List ℕ) → Type 0
 
 -- one thing at work: it has done some of its steps, is on its way after each of them, and has said the first of its texts.
--- With those that were refused, its steps are no more than it takes: so what was refused a step had one left to do
+-- Its steps and the refused ones are together no more than a complete run of it takes
 pub record AtWork {A : Type 0} (whole : Doing A) (way : A → Files → Files → Type 0) (steps : A → Files → Step → Type 0)
     (now refused : ℕ) (x : A) (t : Files) (done : List Step) (new_messages : List (List ℕ)) : Type 0 where
   pub along : Along (way x t) t done now
@@ -95,7 +95,7 @@ pub record HasGone {S : Type 0} (tree : Ghosts S) (Is : List Step → List (List
   pub is : Is steps texts
 
 -- something is carried out over a tree, and told: where the answer is Ok it is whole, all its texts are said, and the answer
--- tells whether a place was refused to it; whatever the answer, a front part of its texts is said, it has gone on its way
+-- tells whether a place was refused to it; whatever the answer, a prefix of its texts is said, it has gone on its way
 -- by its steps, by no more than it takes, and its steps and texts together are those of where it was cut short
 pub record CarriesOut {S A : Type 0} (tree : Ghosts S) (c : Course A) (x : A) (now : ℕ) (old new : S) (before behind : List (List ℕ))
     (r : Result Carried TreeFault) : Type 0 where

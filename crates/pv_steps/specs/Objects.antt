@@ -18,11 +18,11 @@ abbrev pub is_directory : Kind → Bool
 is_directory Directory = true
 is_directory kind = false
 
--- all four stamps at one moment
+-- all four timestamps at one moment
 abbrev pub stamped : ℕ → Stamps
 stamped now = record { access = now; birth = now; change = now; modify = now }
 
--- an object with its four stamps left out of account
+-- an object with its four timestamps left out of account
 abbrev pub object_state : Object → Object
 object_state o = record o { node = record o.node { stamps = stamped 0 } }
 
@@ -80,7 +80,7 @@ with_attrs attrs now o = changed now (record o { node = record o.node { attrs = 
 abbrev pub with_letters : ℕ → ℕ → Object → Object
 with_letters letters now o = changed now (record o { node = record o.node { letters = letters } })
 
--- the stamps of access and modification changed
+-- the timestamps of access and modification changed
 abbrev pub with_stamps : ℕ → ℕ → ℕ → Object → Object
 with_stamps access modify now o = changed now (record o { node = record o.node { stamps = record o.node.stamps { access = access; modify = modify } } })
 

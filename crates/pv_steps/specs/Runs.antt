@@ -13,7 +13,7 @@ abbrev pub after_all : Files → List Step → ℕ → Files
 after_all t [] now = t
 after_all t (step ∷ steps) now = after_all (after t step now) steps now
 
--- a step is not idle: but for SetStamps it changes more than stamps
+-- a step is not idle: except for SetStamps it changes more than timestamps
 abbrev pub IsNotIdle : Files → Step → ℕ → Type 0
 IsNotIdle t (SetStamps path access modify) now = Unit {0}
 IsNotIdle t step now = Differ t (after t step now)

@@ -1,5 +1,5 @@
 -- The fifteen atomic steps: when each may be done, and what it leaves (mkdir(2), mknod(2), symlink(2), rename(2),
--- unlink(2), rmdir(2), chmod(2), chown(2), setxattr(2), chattr(1), utimensat(2); acl(5) for ACLs), stamps included
+-- unlink(2), rmdir(2), chmod(2), chown(2), setxattr(2), chattr(1), utimensat(2); acl(5) for ACLs), timestamps included
 -- (inode(7)).
 use Rattle.std.specs.Prelude.{◌≡◌, ◌≢◌, ◌⊎◌, ℕ, ◌^◌, ◌<◌, ◌≤◌, Bool, true, false, List, [], ◌∷◌, ◌++◌, map, Option, Some, None, nat_lt, option_map, if◌then◌else◌}
 use Rattle.std.specs.List.{list_all}
@@ -87,7 +87,7 @@ StepFits (RemoveDir path) = has_names path ≡ true
 abbrev pub put_at : Path → Option Object → Places → Places
 put_at path o t = λ q. if same_path path q then o else t q
 
--- the object at one path changed, where there is one
+-- the object at one path changed, if there is one
 abbrev pub on_at : Path → (Object → Object) → Places → Places
 on_at path f t = λ q. if same_path path q then option_map f (t q) else t q
 
@@ -122,7 +122,7 @@ moved now from to t = λ q. moved_at now from to t q (rest_under to q)
 abbrev pub device_kind : Bool → Kind
 device_kind block = if block then BlockDevice else CharDevice
 
--- what stands at each path after a step at a moment
+-- the object at each path after a step at a moment
 abbrev pub after_at : Places → Step → ℕ → Places
 after_at t (MakeDir path) now = made now path (fresh Directory 0o700 [] 0 0 now) t
 after_at t (MakeFile path) now = made now path (fresh File 0o600 [] 0 0 now) t

@@ -13,25 +13,25 @@ use Rattle.pv_steps.specs.Objects.{IsObject}
 abbrev pub Files : Type 0
 Files = fin.FinMap path_cmp Object
 
--- a tree as the function that gives what stands at each path
+-- a tree as the function that gives the object at each path
 abbrev pub Places : Type 0
 Places = Path → Option Object
 
--- what stands at each path of a tree
+-- the object at each path of a tree
 abbrev pub places : Files → Places
 places files = fin.get files
 
--- ---- what stands at a path
+-- ---- the object at a path
 
 -- the node at a path
 abbrev pub node_at : Files → Path → Option Node
 node_at files path = option_map (λ o. o.node) (places files path)
 
--- the payload of what stands at a path: the bytes of a file, the target of a link, else no bytes
+-- the payload of the object at a path: the bytes of a file, the target of a link, otherwise no bytes
 abbrev pub payload_at : Files → Path → Option (List ℕ)
 payload_at files path = option_map (λ o. o.payload) (places files path)
 
--- the kind of what stands at a path, if something does
+-- the kind of the object at a path, if something does
 abbrev pub kind_of : Option Object → Option Kind
 kind_of o = option_map (λ o. o.node.kind) o
 

@@ -16,8 +16,8 @@ abbrev pub CanAll : Files → List Step → ℕ → Type 0
 CanAll t [] now = ⊤
 CanAll t (step ∷ steps) now = Can (places t) step × CanAll (after t step now) steps now
 
--- a front part of some steps was done and recorded, all of them exactly where the answer is Ok, and the tree counted one fault
--- where it refused the next of them, else none; `tree` is what trees of this type tell of themselves
+-- a prefix of some steps was done and recorded, all of them exactly if the answer is Ok, and the tree counted one fault
+-- where it refused the next of them, otherwise none; `tree` is what trees of this type tell of themselves
 pub record TriedAll {S : Type 0} (tree : Ghosts S) (steps : List Step) (now : ℕ) (old new : S) (r : Result (Unit {0}) TreeFault) : Type 0 where
   pub done : List Step
   pub left : List Step

@@ -5,7 +5,7 @@ ghost use Rattle.std.specs.List.{list_any, list_all, prefix_len};
 ghost use Rattle.std.specs.Option.{option_copied, option_map};
 ghost use Rattle.pv_steps.specs.Attributes.{is_attr_name, is_attr, are_attrs, comes_before, all_before, put_attr, put_attrs, inner_bytes};
 
-use pv_path::Bytes;
+use pv_path::{Bytes, RareList};
 use std::alloc::{AllocError, Global};
 use std::marker::Model;
 
@@ -27,8 +27,8 @@ impl Attr {
     }
 }
 
-/// Whether an extended attribute may have this name: 1 to 255 bytes without NUL, with a period that is neither
-/// first nor last, and not in the namespace `system`, in which ACLs lie (xattr(7)). It takes no memory.
+/// Whether an extended attribute may have this name (xattr(7)). A name has 1 to 255 bytes without NUL, with a period
+/// that is neither first nor last. It is not in the namespace `system`, which holds ACLs. It takes no memory.
 pub fn is_attr_name(name: &[u8]) -> bool
     ensures { result ≡ is_attr_name name.now }
 {
@@ -70,7 +70,7 @@ fn has_period(bytes: &[u8]) -> bool
 /// allowed (xattr(7)). Clauses see the list.
 #[derive(Clone, Drop)]
 pub struct AttrList {
-    items: Vec<Attr>,
+    items: RareList<Attr>,
 }
 
 impl Model for AttrList {
@@ -80,9 +80,9 @@ impl Model for AttrList {
 
     ghost Value = { List Attr };
 
-    ghost view = { λ l. l.items.items };
+    ghost view = { λ l. l.items };
 
-    ghost invariant = { λ l. are_attrs l.items.items ≡ true };
+    ghost invariant = { λ l. are_attrs l.items ≡ true };
 }
 
 impl AttrList {
@@ -91,7 +91,7 @@ impl AttrList {
         ensures { result ≡ [] }
     {
         AttrList {
-            items: Vec::new(alloc),
+            items: RareList::new(alloc),
         }
     }
 
@@ -114,7 +114,7 @@ impl AttrList {
     {
         let at = place_of(self.items.as_slice(), &item);
         if is_named_as(self.items.as_slice(), at, &item) {
-            self.items[at] = item;
+            self.items.set(at, item);
             return Ok(());
         }
         self.items.insert(at, item)?;
@@ -136,14 +136,14 @@ impl AttrList {
     pub fn len(&self) -> usize
         ensures { result ≡ length self.now }
     {
-        self.items.len()
+        self.items.as_slice().len()
     }
 
-    /// The attribute at a place counted from 0, or nothing past the end. It takes no memory.
+    /// The attribute at an index counted from 0, or nothing past the end. It takes no memory.
     pub fn get(&self, i: usize) -> Option<&Attr>
         ensures { option_copied result ≡ slice_get self.now i }
     {
-        self.items.get(i)
+        self.items.as_slice().get(i)
     }
 
     /// The attributes as a slice.
@@ -158,7 +158,7 @@ impl AttrList {
     pub fn is_empty(&self) -> bool
         ensures { IsTrue result ↔ (self.now ≡ []) }
     {
-        self.items.is_empty()
+        self.items.as_slice().is_empty()
     }
 
     /// Whether two lists are the same. It takes no memory.

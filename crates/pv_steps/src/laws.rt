@@ -55,7 +55,7 @@ pub fn names_rise_strictly()
     ensures { (files : Files) (path : Path) → IsStrictlySortedBy (slice_cmp nat_cmp) (names_below files path) }
 {}
 
-/// A name is in a directory exactly where something stands at the path and the name.
+/// A name is in a directory exactly if something stands at the path and the name.
 pub fn names_are_of_what_stands_there()
     ensures { (files : Files) (path : Path) (name : List ℕ) →
         list_any (eq_by_cmp (slice_cmp nat_cmp) name) (names_below files path) ≡ is_some (places files (path ++ name ∷ [])) }

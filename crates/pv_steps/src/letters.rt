@@ -92,7 +92,7 @@ impl LetterSet {
         LetterSet { flags: Letters(0) }
     }
 
-    /// The set of one letter, or nothing where the byte is no letter.
+    /// The set of one letter, or nothing if the byte is no letter.
     pub fn of(letter: u8) -> Option<LetterSet>
         ensures { result ≡ letter_bit letter }
     {

@@ -1,5 +1,6 @@
-//! What a tree is and what a step does to it: the definitions on which every run of the program stands, the trait of
-//! the trees that can be walked and changed, and what several things leave that are done one after the other.
+//! Trees and steps: what a tree is and what a step does to it. On these definitions every run of the program rests. The
+//! crate has the trait of trees that can be walked and changed, and says what several things leave that are done one
+//! after the other.
 #![tactic(auto)]
 
 mod asking;
@@ -23,7 +24,7 @@ pub use laws::{
     names_are_of_what_stands_there, names_rise_strictly, presence_decides_names,
 };
 pub use letters::{LetterHow, LetterSet};
-pub use looking::{is_directory, is_present, kind_at};
+pub use looking::{is_directory, is_present, kind_at, node_of};
 pub use node::{Kind, Node, Stamps, special_bits};
 pub use object::{Object, is_target};
 pub use step::Step;

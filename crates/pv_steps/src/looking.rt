@@ -1,13 +1,13 @@
-//! Looks at a tree: what stands at a path.
-ghost use Rattle.std.specs.Prelude.{◌≡◌, ◌↔◌, IsTrue, is_some};
+//! Looks at a tree: the object at a path.
+ghost use Rattle.std.specs.Prelude.{◌≡◌, ◌↔◌, IsTrue, Some, is_some};
 ghost use Rattle.pv_steps.specs.declared.node.Kind.TheVariants.{Directory};
-ghost use Rattle.pv_steps.specs.Trees.{places, kind_of, IsKind, IsTree};
+ghost use Rattle.pv_steps.specs.Trees.{places, kind_of, node_at, IsKind, IsPresent, IsTree};
 
-use crate::node::Kind;
+use crate::node::{Kind, Node};
 use crate::tree::Tree;
 use pv_path::TreePath;
 
-/// The kind of what stands at a path, or nothing where nothing does. It takes no memory.
+/// The kind of the object at a path, or nothing if it is absent. It takes no memory.
 pub fn kind_at<T: Tree>(tree: &T, path: &TreePath) -> Option<Kind>
     ensures kind { result ≡ kind_of (places (T.state tree.now) path.now) }
     ensures tree { IsTree (T.state tree.now) }
@@ -15,6 +15,18 @@ pub fn kind_at<T: Tree>(tree: &T, path: &TreePath) -> Option<Kind>
     match tree.look(path) {
         Some(node) => Some(node.kind),
         None => None,
+    }
+}
+
+/// The node at a path where an object stands. It takes no memory.
+pub fn node_of<'a, T: Tree>(tree: &'a T, path: &TreePath) -> &'a Node
+    requires { IsPresent (T.state tree.now) path.now }
+    ensures node { Some result.now ≡ node_at (T.state tree.now) path.now }
+    ensures tree { IsTree (T.state tree.now) }
+{
+    match tree.look(path) {
+        Some(node) => node,
+        None => unreachable!(),
     }
 }
 

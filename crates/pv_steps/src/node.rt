@@ -56,18 +56,18 @@ pub struct Node {
     pub kind: Kind,
     /// Set-user-ID 4, set-group-ID 2, sticky 1.
     pub special: u8,
-    pub uid: u32,
-    pub gid: u32,
-    pub acl: Acl,
-    pub stamps: Stamps,
-    /// A device's major number, else 0.
-    pub major: u32,
-    /// A device's minor number, else 0.
-    pub minor: u32,
-    /// The extended attributes, which a link has none of (xattr(7)).
-    pub attrs: AttrList,
     /// The letters, which files and directories alone have (chattr(1)).
     pub letters: LetterSet,
+    pub uid: u32,
+    pub gid: u32,
+    /// A device's major number, otherwise 0.
+    pub major: u32,
+    /// A device's minor number, otherwise 0.
+    pub minor: u32,
+    pub acl: Acl,
+    /// The extended attributes, which a link has none of (xattr(7)).
+    pub attrs: AttrList,
+    pub stamps: Stamps,
 }
 
 impl Node {

@@ -9,7 +9,7 @@ use pv_acl::Acl;
 use pv_path::Bytes;
 use std::alloc::{AllocError, Global};
 
-/// An object of a tree: its node, and the bytes of a file or the target of a link, else no bytes.
+/// An object of a tree: its node, and the bytes of a file or the target of a link, otherwise no bytes.
 #[derive(Drop)]
 pub struct Object {
     pub node: Node,

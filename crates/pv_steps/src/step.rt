@@ -40,8 +40,8 @@ pub enum Step {
         path: TreePath,
         content: Bytes,
     },
-    /// The special bits and the base entries of what is no link change; named entries, mask and default part
-    /// stay (chmod(2), but for the mask).
+    /// The special bits and the base entries of an object that is not a link change. Named entries and the default part
+    /// stay, and unlike in chmod(2) the mask stays too.
     SetMode {
         path: TreePath,
         mode: u16,
@@ -52,12 +52,12 @@ pub enum Step {
         uid: u32,
         gid: u32,
     },
-    /// The whole ACL of what is no link changes; a default part is for a directory alone (acl(5)).
+    /// The whole ACL of an object that is not a link changes. Only a directory has a default part (acl(5)).
     SetAcl {
         path: TreePath,
         acl: Acl,
     },
-    /// The whole list of extended attributes of what is no link changes (setxattr(2)).
+    /// The whole list of extended attributes of an object that is not a link changes (setxattr(2)).
     SetAttrs {
         path: TreePath,
         attrs: AttrList,
@@ -73,13 +73,12 @@ pub enum Step {
         access: u64,
         modify: u64,
     },
-    /// What stands at and below a path comes to lie at and below another, in place of what stood there
-    /// (rename(2)).
+    /// The object at a path is renamed to another path, with all below it, in place of the object there (rename(2)).
     Rename {
         from: TreePath,
         to: TreePath,
     },
-    /// What is no directory goes (unlink(2)).
+    /// An object that is not a directory is removed (unlink(2)).
     Unlink {
         path: TreePath,
     },

@@ -56,7 +56,7 @@ pub trait Tree {
     /// How calls move a tree: what holds between a tree and what it is after any number of them.
     ghost reaches: { Self → Self → Type 0 };
 
-    /// The node at a path, or nothing where the path is absent. It takes no memory.
+    /// The node at a path, or nothing if the path is absent. It takes no memory.
     fn look(&self, path: &TreePath) -> Option<&Node>
         ensures node { option_copied result ≡ node_at (state self.now) path.now }
         ensures tree { IsTree (state self.now) };
@@ -90,7 +90,7 @@ pub trait Tree {
 
         ensures reaches { reaches self.old self.new }
 
-        // It counts one fault where it refuses the step, else none.
+        // It counts one fault where it refuses the step, otherwise none.
         ensures counted { faults self.new ≡ faults_after (refused result) (faults self.old) }
 
         // A step that it refuses comes after all that were done.

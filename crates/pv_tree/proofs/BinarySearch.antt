@@ -1,4 +1,4 @@
--- Lists of orders that rise: what stands at each place, and how the halves shrink.
+-- Lists of orders that rise: the object at each place, and how the halves shrink.
 use Rattle.std.proofs.Common.{◌≡◌, ℕ, suc, zero, ◌+◌, ◌*◌, ◌/◌, ◌^◌, ◌<◌, ◌≤◌, List, ◌∷◌, ◌++◌, length, replicate, Some, None, slice_get, position, cond, nat_lt, true, false, refl, sym, ap, subst, ◌∙◌, arith, length-append}
 use Rattle.std.proofs.lemmas.List.{length-replicate}
 use Rattle.std.proofs.lemmas.Bool.Decides.{nat_tests}
@@ -127,9 +127,9 @@ rising_none orders h e = by_count h.equal h.once h.is
         absurd cc
     by_count (suc (suc c)) once is = absurd (omega (arith, once))
 
--- ---- how many questions are needed
+-- ---- how many queries are needed
 
--- k more questions suffice for n places, where d sufficed in all
+-- k more queries suffice for n places, where d sufficed in all
 pub record IsEnough (d n asked left : ℕ) : Type 0 where
   pub more : ℕ
   pub count : d + left ≡ asked + more

@@ -171,7 +171,7 @@ module _ (g h : Edges) (d : Path) (k f : ℕ) (n : List ℕ) (change : IsSet k n
       by (inr a) (inl b) = absurd (new q p b a hq hp)
       by (inr a) (inr b) = once p q i (sym (made_else p a) ∙ hp) (sym (made_else q b) ∙ hq)
 
-  -- what no path led to before, but for the child, none leads to now
+  -- what no path led to before, except for the child, none leads to now
   pub made_apart : (i : ℕ) → i ≢ f → ((p : Path) → led g 0 p ≢ Some i) → (q : Path) → led h 0 q ≢ Some i
   made_apart i other apart q is = by (path_cases q (d ++ n ∷ []))
     where

@@ -19,7 +19,7 @@ use Rattle.pv_tree.proofs.EdgeLaws.{Once, led-agree, directory_stays, led-on, ma
 use Rattle.pv_tree.proofs.PlaceLaws.{places_changed, places_made, places_gone, places_moved}
 use Rattle.pv_tree.proofs.SlotLaws.{slice_get_push, slice_get_before}
 
--- ---- numbers and what stands there
+-- ---- numbers and the object there
 
 pub object_within : (s : List Slot) (i : ℕ) → i < length s → is_some (object_in s i) ≡ true
 object_within [] i h = absurd (omega arith)

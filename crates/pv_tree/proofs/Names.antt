@@ -82,7 +82,7 @@ FoundAt name es i g = orders_of name es ≡ replicate i Less ++ Equal ∷ replic
 abbrev GapAt : List ℕ → Entries → ℕ → ℕ → Type 0
 GapAt name es i g = orders_of name es ≡ replicate i Less ++ replicate g Greater
 
--- the entry that is found has the name that is sought, and is what stands there
+-- the entry that is found has the name that is sought, and is the object there
 get_found : (name : List ℕ) (es : Entries) (i g : ℕ) (d : List ℕ × ℕ) → FoundAt name es i g → ((get_or es i d).0 ≡ name) × (find name_cmp name es ≡ Some (get_or es i d).1)
 get_found name [] zero g d h = cc
 get_found name [] (suc i) g d h = cc
@@ -199,7 +199,7 @@ read_nowhere name es h none =
     let order : IsRising (orders_of name es) = rising name es h in
     sym (object_missed name es order.less (rising_none (orders_of name es) order (sym none)))
 
--- an entry with the name that is sought is what stands there
+-- an entry with the name that is sought is the object there
 pub read_at : (name : List ℕ) (es : Entries) (i : ℕ) (e : List ℕ × ℕ) → IsSorted es → Some e ≡ slice_get es i → name_cmp e.0 name ≡ Equal → Some e.1 ≡ find name_cmp name es
 read_at name es i e h at same =
     let order : Some Equal ≡ slice_get (orders_of name es) i =
@@ -331,3 +331,17 @@ as_empty es is = fin.same_map nat_list_cmp_total name_exact (fin.from_sorted es)
 pub keys_are : {E : Type 0} → (r : Result (List (List ℕ)) E) (es : Entries) (m : Children) → fin.from_sorted es ≡ m → IsSorted es → IfOk r (λ names. names ≡ map (λ e. e.0) es) → IfOk r (λ names. names ≡ fin.keys m)
 keys_are (Ok names) es m is h ok = ok ∙ ap (map (λ (e : List ℕ × ℕ). e.0)) (sym (as_entries es m is h))
 keys_are (Err e) es m is h ok = tt
+
+-- ---- no children
+
+pub no_entries : fin.entries (fin.empty {X = ℕ} {R = name_cmp}) ≡ []
+no_entries = as_entries [] fin.empty (as_empty [] refl) tt
+
+pub no_keys : fin.keys (fin.empty {X = ℕ} {R = name_cmp}) ≡ []
+no_keys = ap (map (λ (e : List ℕ × ℕ). e.0)) no_entries
+
+pub none_removed : (name : List ℕ) → fin.remove (fin.empty {X = ℕ} {R = name_cmp}) name ≡ fin.empty
+none_removed name = sym (as_remove name [] [] fin.empty (as_empty [] refl) tt refl) ∙ as_empty [] refl
+
+pub none_found : (name : List ℕ) → fin.get (fin.empty {X = ℕ} {R = name_cmp}) name ≡ None
+none_found = fin.get-empty name_cmp

@@ -1,4 +1,4 @@
--- What stands at a path gets another node of its kind: a tree stays a tree.
+-- The object at a path gets another node of its kind: a tree stays a tree.
 use Rattle.std.proofs.Common.{◌≡◌, ◌∙◌, Bool, true, false, cond, List, [], ℕ, Option, Some, None, option_map, refl, sym, ap, subst}
 use Rattle.std.specs.Prelude.{IfSome}
 use Rattle.std.proofs.lemmas.Option.{same_Some}

@@ -1,4 +1,4 @@
--- What stands at each path after an object is changed, and after children come, go and move.
+-- The object at each path after an object is changed, and after children come, go and move.
 use Rattle.std.proofs.Common.{◌≡◌, ◌≢◌, ℕ, Bool, true, false, cond, List, [], ◌∷◌, ◌++◌, Option, Some, None, option_map, refl, sym, ap, ◌∙◌}
 use Rattle.std.specs.Option.{option_and_then}
 use Rattle.std.proofs.lemmas.List.{append-nil}

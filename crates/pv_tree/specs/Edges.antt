@@ -33,6 +33,6 @@ pub record IsPlaced (k : ℕ) (o : Object) (g : Edges) (a : Objects) (h : Edges)
   pub object_state : (name : List ℕ) → h k name ≡ None
   pub else : (i : ℕ) → i ≢ k → (b i ≡ a i) × ((name : List ℕ) → h i name ≡ g i name)
 
--- what stands at each path from the root, which has the number 0
+-- the object at each path from the root, which has the number 0
 abbrev pub places_by : Edges → Objects → Places
 places_by g a = λ path. option_and_then a (led g 0 path)

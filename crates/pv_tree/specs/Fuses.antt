@@ -17,7 +17,7 @@ abbrev pub refusals_after : Option ℕ → ℕ → ℕ
 refusals_after (Some zero) refused = fault_after refused
 refusals_after left refused = refused
 
--- how many steps were done when one was last refused: with nothing left at the present one, else by the inner tree
+-- how many steps were done when one was last refused: with nothing left at the present one, otherwise by the inner tree
 abbrev pub last_refusal : Option ℕ → ℕ → ℕ → ℕ
 last_refusal (Some zero) done at = done
 last_refusal left done at = at
@@ -31,7 +31,7 @@ whole_limit (Some left) done = Some (left + done)
 abbrev pub IsUsedUp : Option ℕ → ℕ → Type 0
 IsUsedUp left refused = 0 < refused → left ≡ Some 0
 
--- how a fuse burns: only steps that were done use it up, and it refuses only where nothing is left
+-- how a fuse burns: only steps that were done use it up, and it refuses only if nothing is left
 pub record Burnt (left : Option ℕ) (refused : ℕ) (done : ℕ) (left' : Option ℕ) (refused' : ℕ) (done' : ℕ) : Type 0 where
   pub limit : whole_limit left' done' ≡ whole_limit left done
   pub refusals : refused ≤ refused'

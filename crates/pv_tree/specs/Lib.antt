@@ -1,5 +1,6 @@
 pub mod Finding
 pub mod Children
+pub mod RareChildren
 pub mod Keys
 pub mod Edges
 pub mod Slots

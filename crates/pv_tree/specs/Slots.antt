@@ -25,7 +25,7 @@ number_in slots path = led (child_in slots) 0 path
 abbrev pub slot_in : List Slot → Path → Option Slot
 slot_in slots path = option_and_then (slice_get slots) (number_in slots path)
 
--- what stands at each path
+-- the object at each path
 abbrev pub places_in : List Slot → Places
 places_in slots = places_by (child_in slots) (object_in slots)
 

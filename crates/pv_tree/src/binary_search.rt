@@ -6,8 +6,8 @@ ghost use Rattle.pv_tree.specs.Finding.{IsRising, IsFoundAt, IsGapAt};
 
 use std::cmp::Ordering;
 
-/// Something that knows how each place of a list stands to what is sought, and may be asked so many times.
-/// It means the list of these orders, which no question changes, and the number of questions left.
+/// Something that knows how each item of a list compares with what is sought, and may be asked so many times. It means
+/// the list of these orders, which no query changes, and the number of queries left.
 pub trait Probe {
     ghost orders: { Self → List Order };
 
@@ -22,13 +22,13 @@ pub trait Probe {
         ensures asked { left self.new + 1 ≡ left self.old };
 }
 
-/// The place that is equal to what is sought, or nothing where there is none. With the least d for which
-/// `len` is below 2^d, it asks at most d questions. It takes no memory.
+/// Binary search: the index of the item that is equal to what is sought, or nothing if there is none. With the least d
+/// for which `len` is below 2^d, it makes at most d queries. It takes no memory.
 pub fn find<P: Probe>(probe: &mut P, len: usize) -> Option<usize>
     requires len { len ≡ length (P.orders probe.old) }
     requires rising { IsRising (P.orders probe.old) }
 
-    // At least d questions are left.
+    // At least d queries are left.
     requires enough { len < 2 ^ P.left probe.old }
     ensures place { result ≡ position is_eq (P.orders probe.old) }
     ensures orders { P.orders probe.new ≡ P.orders probe.old }

@@ -28,7 +28,7 @@ pub enum BuildFault {
     /// The path is not greater than the last one.
     #[error("OutOfOrder")]
     OutOfOrder,
-    /// The path's parent is no directory of the tree.
+    /// The path's parent is not a directory of the tree.
     #[error("NoParent")]
     NoParent,
     /// Memory ran out.
@@ -88,8 +88,8 @@ fn depth_after(last: &TreePath, path: &TreePath) -> Result<usize, BuildFault>
     Ok(shared)
 }
 
-/// How many names of the last path are those of the directory of a path after it, with room for one number more on the
-/// way. After a fault the way is as before.
+/// How many names of the last path are those of the parent of a path after it. It makes room for one more number in the
+/// numbers of the last path. After a fault these are as before.
 fn directory_depth(
     slots: &Vec<Slot>,
     last: &TreePath,
@@ -118,8 +118,8 @@ fn directory_depth(
     Ok(depth)
 }
 
-/// Adds an object after the last one, whose path and the numbers on the way to it are given. After a fault
-/// all is as before.
+/// Adds an object after the last one. Its path and the numbers of its ancestors are given. After a fault all is as
+/// before.
 fn add_after(
     alloc: Global,
     slots: &mut Vec<Slot>,
@@ -153,8 +153,8 @@ fn add_after(
     Ok(())
 }
 
-/// A tree in the making, to which objects are added in the order of their paths: the last path shows where
-/// the next one lies, so nothing is looked up. Clauses see the tree so far and the last path.
+/// A tree that is built by adding objects in the order of their paths. The last path shows where the next one lies, so
+/// nothing is looked up. Clauses see the tree so far and the last path.
 #[derive(Drop)]
 pub struct TreeBuilder {
     alloc: Global,

@@ -67,7 +67,7 @@ fn number_there(entries: &[(KeyedName, usize)], i: usize, name: &SoughtName<'_>)
     }
 }
 
-/// The number that stands at a name in a row, or nothing where it is absent. It asks at most 64 questions.
+/// The number at a name in a row, or nothing if it is absent. It makes at most 64 queries.
 fn number_sought(
     entries: &[(KeyedName, usize)],
     last: &Cell<usize>,
@@ -90,7 +90,7 @@ fn number_sought(
     }
 }
 
-/// The number that stands at a name in a row, or nothing where it is absent. What is sought is mostly what was found
+/// The number that stands at a name in a row, or nothing if it is absent. What is sought is mostly what was found
 /// last, or stands after it.
 fn number_in(
     entries: &[(KeyedName, usize)],
@@ -112,7 +112,7 @@ fn number_in(
     number_sought(entries, last, name)
 }
 
-/// The number that stands at a name, or nothing where it is absent. The entries lie in two rows, of which the second is
+/// The number that stands at a name, or nothing if it is absent. The entries lie in two rows, of which the second is
 /// mostly empty.
 fn number_of(
     entries: &VecDeque<(KeyedName, usize)>,
@@ -140,8 +140,7 @@ fn is_after_all(entries: &VecDeque<(KeyedName, usize)>, name: &SoughtName<'_>) -
     }
 }
 
-/// The place of a name, or else the place at which it would be put. A name after all others costs one
-/// question.
+/// The index of a name, or otherwise the index at which it would be put. A name after all others costs one query.
 fn place(entries: &VecDeque<(KeyedName, usize)>, name: &SoughtName<'_>) -> Result<usize, usize>
     requires { IsSorted entries.now.items }
     ensures found { IfOk result (IsFoundAt (orders_of name.now entries.now.items)) }
@@ -191,7 +190,7 @@ fn put_in(
     }
 }
 
-/// Takes the entry of a name out, where there is one.
+/// Takes the entry of a name out, if there is one.
 fn take_out(entries: &mut VecDeque<(KeyedName, usize)>, name: &SoughtName<'_>) -> Option<usize>
     requires { IsSorted entries.old.items }
     ensures items { entries.new.items ≡ without name.now entries.old.items }
@@ -240,7 +239,7 @@ impl Children {
         }
     }
 
-    /// The number of the child with a name, or nothing where there is none. It takes no memory.
+    /// The number of the child with a name, or nothing if there is none. It takes no memory.
     pub(crate) fn get(&self, name: &Name) -> Option<usize>
         ensures { result ≡ fin.get self.now name.now }
     {
@@ -257,7 +256,7 @@ impl Children {
         put_in(&mut self.entries, KeyedName::of(name), number)
     }
 
-    /// Takes the child with a name out, and gives back its number, where there is one.
+    /// Takes the child with a name out, and gives back its number, if there is one.
     pub(crate) fn remove(&mut self, name: &Name) -> Option<usize>
         ensures items { self.new ≡ fin.remove self.old name.now }
         ensures old { result ≡ fin.get self.old name.now }

@@ -75,8 +75,8 @@ fn name_next(
     Ok(number)
 }
 
-/// Puts an object at an absent path in a directory, and gives the number of the directory. After want of
-/// memory the slots are as before.
+/// Puts an object at an absent path in a directory, and gives the number of the directory. After running out of memory
+/// the slots are as before.
 pub(crate) fn put(
     alloc: Global,
     slots: &mut Vec<Slot>,
@@ -121,7 +121,7 @@ pub(crate) fn make(
     Ok(())
 }
 
-/// Does a step that changes the object at a path, where there is one. After running out of memory the slots are
+/// Does a step that changes the object at a path, if there is one. After running out of memory the slots are
 /// as before.
 pub(crate) fn change_at(
     slots: &mut Vec<Slot>,
@@ -142,7 +142,7 @@ pub(crate) fn change_at(
     }
 }
 
-/// Gives the object at the path of some names, where there is one, another node.
+/// Gives the object at the path of some names, if there is one, another node.
 pub(crate) fn set_node_at(slots: &mut Vec<Slot>, names: &[Name], node: Node)
     requires { IsForest slots.old.items }
     ensures forest { IsForest slots.new.items }
@@ -165,7 +165,7 @@ fn release(free: &mut Vec<usize>, number: Option<usize>)
     }
 }
 
-/// Takes the object at a path away, below which nothing lies, and notes it at its directory. After want of
+/// Removes the object at a path, below which nothing lies, and changes its parent's timestamps. After running out of
 /// memory the slots are as before.
 pub(crate) fn unmake(
     slots: &mut Vec<Slot>,
@@ -189,7 +189,7 @@ pub(crate) fn unmake(
     Ok(())
 }
 
-/// Moves what stands at and below a path to another. After running out of memory the slots are as before.
+/// Renames the object at a path, with all below it. After running out of memory the slots are as before.
 pub(crate) fn rename(
     slots: &mut Vec<Slot>,
     free: &mut Vec<usize>,

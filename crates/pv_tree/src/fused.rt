@@ -111,7 +111,7 @@ impl<T: Tree> Tree for Fused<T> {
         ensures refused { self.old.left ≡ Some 0 → (result ≡ Err Failed) × (self.new.inner ≡ self.old.inner) }
         ensures refusals { self.new.refused ≡ refusals_after self.old.left self.old.refused }
 
-        // Else a step fails only where the inner tree does.
+        // Otherwise a step fails only if the inner tree does.
         ensures passed { self.old.left ≢ Some 0 →
             T.faults self.new.inner ≡ faults_after (refused result) (T.faults self.old.inner) }
 

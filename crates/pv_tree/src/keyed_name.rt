@@ -83,7 +83,7 @@ impl KeyedName {
         }
     }
 
-    /// How the name stands to one that is sought. The names are compared only where their keys are equal and each
+    /// How the name stands to one that is sought. The names are compared only if their keys are equal and each
     /// has eight bytes or more.
     #[tactic(auto, using(crate::proofs::KeyLaws::told_less, crate::proofs::KeyLaws::told_greater, crate::proofs::KeyLaws::told_equal))]
     pub(crate) fn order(&self, sought: &SoughtName<'_>) -> Ordering

@@ -1,4 +1,4 @@
-//! The tree in memory as numbered slots, and the fuse that stops a tree after a number of steps.
+//! The tree in memory, as numbered slots, and a tree that stops after a limit of steps.
 #![tactic(auto)]
 
 mod apply;
@@ -9,6 +9,7 @@ mod edits;
 mod fused;
 mod keyed_name;
 mod mem_tree;
+mod rare_children;
 mod slot;
 mod slots;
 mod walk;

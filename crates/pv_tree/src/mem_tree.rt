@@ -102,7 +102,7 @@ impl MemTree {
         Ok(())
     }
 
-    /// The node at a path, or nothing where the path is absent. It takes no memory.
+    /// The node at a path, or nothing if the path is absent. It takes no memory.
     pub fn node_at(&self, path: &TreePath) -> Option<&Node>
         ensures node { option_copied result ≡ node_at self.now.files path.now }
         ensures tree { IsTree self.now.files }
@@ -113,7 +113,7 @@ impl MemTree {
         }
     }
 
-    /// The kind of what stands at the path of some names, or nothing where it is absent. It takes no memory.
+    /// The kind of the object at the path of some names, or nothing if it is absent. It takes no memory.
     pub fn kind_at(&self, names: &[Name]) -> Option<Kind>
         ensures kind { result ≡ kind_of (places self.now.files names.now) }
         ensures tree { IsTree self.now.files }
@@ -124,8 +124,8 @@ impl MemTree {
         }
     }
 
-    /// Gives what stands at the path of some names, if something does, another node of its kind. Its payload and what lies
-    /// below it stay. It records no step, and takes no memory.
+    /// Gives the object at the path of some names, if it is present, another node of its kind. Its payload and what
+    /// lies below it stay. It records no step, and takes no memory.
     pub fn set_node(&mut self, names: &[Name], node: Node)
         requires { IfSome (places self.old.files names.now) (MayHave node) }
         ensures places { places self.new.files ≡ on_at names.now (with_node node) (places self.old.files) }
@@ -145,7 +145,7 @@ impl MemTree {
         }
     }
 
-    /// The bytes of a file, the target of a link, or no bytes for what is neither; nothing where the path
+    /// The bytes of a file, the target of a link, or no bytes for what is neither; nothing if the path
     /// is absent. It takes no memory.
     pub fn payload_at(&self, path: &TreePath) -> Option<&[u8]>
         ensures { option_copied result ≡ payload_at self.now.files path.now }

@@ -1,19 +1,19 @@
 //! One numbered slot of the tree, and what is changed in it.
 ghost use Rattle.std.specs.Prelude.{◌≡◌, ℕ, OnOk, OnErr};
 ghost use Rattle.pv_steps.specs.Objects.{modified, changed, with_acl, with_attrs, with_content, with_letters, with_mode, with_owner, with_stamps};
-ghost use Rattle.pv_tree.specs.Changes.{change_of};
+ghost use Rattle.pv_tree.specs.Changes.{change_of, with_node};
 
-use crate::children::Children;
+use crate::rare_children::RareChildren;
 use pv_acl::Acl;
 use pv_path::Bytes;
-use pv_steps::{AttrList, LetterSet, Object, Step, special_bits};
+use pv_steps::{AttrList, LetterSet, Node, Object, Step, special_bits};
 use std::alloc::AllocError;
 
 /// An object with the numbers of its children by name, of which only a directory has any.
 #[derive(Drop)]
 pub(crate) struct Slot {
     pub(crate) object: Object,
-    pub(crate) children: Children,
+    pub(crate) children: RareChildren,
 }
 
 /// Notes at a directory that it gained or lost a child.
@@ -30,6 +30,13 @@ pub(crate) fn note_name(object: &mut Object, now: u64)
     ensures { object.new ≡ changed now object.old }
 {
     object.node.stamps.change = now;
+}
+
+/// Gives an object another node.
+pub(crate) fn put_node(object: &mut Object, node: Node)
+    ensures { object.new ≡ with_node node object.old }
+{
+    object.node = node;
 }
 
 /// Sets the special bits and the base entries.

@@ -10,13 +10,13 @@ ghost use Rattle.pv_tree.specs.Edges.{IsSet, IsChanged, IsPlaced};
 ghost use Rattle.pv_tree.specs.Held.{root_alone};
 ghost use Rattle.pv_tree.specs.Slots.{child_in, files_of, object_in, number_in, slot_in, places_in, next_number, IsTreeOf};
 
-use crate::children::Children;
-use crate::slot::{Slot, change, note_content, note_name};
+use crate::rare_children::RareChildren;
+use crate::slot::{Slot, change, note_content, note_name, put_node};
 use pv_path::{Bytes, Name, TreePath};
 use pv_steps::{Node, Object, Step};
 use std::alloc::{AllocError, Global};
 
-/// The number of the child that a slot has by a name, or nothing where it has none.
+/// The number of the child that a slot has by a name, or nothing if it has none.
 pub(crate) fn child_of(slots: &Vec<Slot>, number: usize, name: &Name) -> Option<usize>
     ensures { result ≡ child_in slots.now.items number name.now }
 {
@@ -26,7 +26,7 @@ pub(crate) fn child_of(slots: &Vec<Slot>, number: usize, name: &Name) -> Option<
     }
 }
 
-/// The number at the path of some names, or nothing where it is absent. It asks each directory once.
+/// The number at the path of some names, or nothing if it is absent. It asks each directory once.
 pub(crate) fn number_at(slots: &Vec<Slot>, names: &[Name]) -> Option<usize>
     ensures { result ≡ number_in slots.now.items names.now }
 {
@@ -45,7 +45,7 @@ pub(crate) fn is_directory_in(slots: &Vec<Slot>, number: usize) -> bool
     slots[number].object.node.kind.is_directory()
 }
 
-/// The slot at the path of some names, or nothing where it is absent.
+/// The slot at the path of some names, or nothing if it is absent.
 pub(crate) fn slot_of<'a>(slots: &'a Vec<Slot>, names: &[Name]) -> Option<&'a Slot>
     ensures { option_copied result ≡ slot_in slots.now.items names.now }
 {
@@ -55,7 +55,7 @@ pub(crate) fn slot_of<'a>(slots: &'a Vec<Slot>, names: &[Name]) -> Option<&'a Sl
     }
 }
 
-/// The slot at a path, or nothing where the path is absent.
+/// The slot at a path, or nothing if the path is absent.
 pub(crate) fn slot_at<'a>(slots: &'a Vec<Slot>, path: &TreePath) -> Option<&'a Slot>
     ensures { option_copied result ≡ slot_in slots.now.items path.now }
 {
@@ -117,7 +117,7 @@ pub(crate) fn put_child(
     slot.children.put(name, child)
 }
 
-/// Takes a child out of a slot, and gives back its number, where there is one.
+/// Takes a child out of a slot, and gives back its number, if there is one.
 pub(crate) fn remove_child(slots: &mut Vec<Slot>, number: usize, name: &Name) -> Option<usize>
     requires { number < length slots.old.items }
     ensures edges { IsSet number name.now None (child_in slots.old.items) (child_in slots.new.items) }
@@ -177,7 +177,7 @@ pub(crate) fn set_node(slots: &mut Vec<Slot>, number: usize, node: Node)
     ensures length { length slots.new.items ≡ length slots.old.items }
 {
     let slot = &mut slots[number];
-    slot.object.node = node;
+    put_node(&mut slot.object, node);
 }
 
 /// The number that the next new slot gets.
@@ -203,7 +203,7 @@ pub(crate) fn place(alloc: Global, slots: &mut Vec<Slot>, free: &mut Vec<usize>,
 {
     let slot = Slot {
         object,
-        children: Children::new(alloc),
+        children: RareChildren::new(alloc),
     };
     match free.pop() {
         Some(number) => slots[number] = slot,
@@ -225,12 +225,12 @@ pub(crate) fn root_slots(alloc: Global, root: Node) -> Result<Vec<Slot>, AllocEr
     let mut slots = Vec::new(alloc);
     slots.push(Slot {
         object,
-        children: Children::new(alloc),
+        children: RareChildren::new(alloc),
     })?;
     Ok(slots)
 }
 
-/// Adds an item where there is room for it.
+/// Adds an item if there is room for it.
 pub(crate) fn push_within<T: Drop>(items: &mut Vec<T>, item: T)
     requires { vec_len items.old < vec_capacity items.old }
     ensures { items.new.items ≡ items.old.items ++ item ∷ [] }

@@ -11,14 +11,14 @@ use pv_steps::Node;
 use std::alloc::{AllocError, Global};
 use std::marker::Model;
 
-/// What stands at a path of a tree.
+/// The object at a path of a tree.
 #[derive(Clone, Copy)]
 pub struct WalkEntry<'a> {
     /// The names of the path.
     pub names: &'a [Name],
     /// The node of the object.
     pub node: &'a Node,
-    /// The bytes of a file or the target of a link, else no bytes.
+    /// The bytes of a file or the target of a link, otherwise no bytes.
     pub payload: &'a [u8],
 }
 

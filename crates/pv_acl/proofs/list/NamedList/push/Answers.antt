@@ -3,4 +3,4 @@ use Rattle.pv_acl.proofs.list.NamedList.push.Goals as goal
 
 pub invariant_of-self-2 : goal.invariant_of-self-2
 invariant_of-self-2 c =
-    rw c.in_ok-push.ensures.items (is_ordered-push c.self.inside.items.items c.args.item c.self.invariant (rw c.self.view_is c.requires))
+    rw c.in_ok-push.ensures.ok (is_ordered-push c.self.inside.items c.args.item c.self.invariant (rw c.self.view_is c.requires))
