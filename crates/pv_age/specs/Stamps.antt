@@ -1,4 +1,4 @@
--- The stamps that an age looks at (tmpfiles.d(5), Age): access, birth, change and modify, of objects that
+-- The timestamps that an age looks at (tmpfiles.d(5), Age): access, birth, change and modify, of objects that
 -- are no directories by the lower case letter, and of directories by the upper case letter.
 use Rattle.std.specs.Prelude.{ℕ, Bool, ◌^◌, ◌==◌, List, [], ◌∷◌, codes, position, Option, Result, Ok, Err}
 use Rattle.std.specs.Option.{option_map}
@@ -16,12 +16,12 @@ letter_bit letter = option_map (λ i. 2 ^ i) (position (λ l. l == letter) (code
 abbrev pub stamp_of : ℕ → Result ℕ AgeFault
 stamp_of letter = or_fault BadStampLetter (letter_bit letter)
 
--- the stamps chosen so far, and those of letters that are all known
+-- the timestamps chosen so far, and those of letters that are all known
 abbrev pub stamps_with : ℕ → List ℕ → Result StampSet AgeFault
 stamps_with bits [] = Ok (record { 0 = bits })
 stamps_with bits (letter ∷ letters) = stamp_of letter >>= (λ bit. stamps_with (bit_or bits bit) letters)
 
--- the stamps that a list of letters chooses, of which there must be one
+-- the timestamps that a list of letters chooses, of which there must be one
 abbrev pub stamps_of : List ℕ → Result StampSet AgeFault
 stamps_of [] = Err BadStampLetter
 stamps_of (letter ∷ letters) = stamps_with 0 (letter ∷ letters)

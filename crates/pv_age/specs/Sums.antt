@@ -11,7 +11,7 @@ use Rattle.pv_path.specs.Results.{◌>>=◌, or_fault}
 use Rattle.pv_age.specs.declared.unit.Unit.{Unit}
 use Rattle.pv_age.specs.declared.unit.Unit.TheVariants.{Microsecond, Millisecond, Second, Minute, Hour, Day, Week}
 
--- the table of units: their names, where no name at all stands for the second
+-- the table of units: their names, if no name at all stands for the second
 abbrev pub names_of : Unit → List (List ℕ)
 names_of Microsecond = codes "us" ∷ codes "usec" ∷ []
 names_of Millisecond = codes "ms" ∷ codes "msec" ∷ []

@@ -20,9 +20,9 @@ pub struct Age {
     pub spare_first: bool,
 }
 
-/// The age that a text spells, or its first fault in the order of `AgeFault`: an optional `~` that
-/// spares the first level, an optional list of timestamp letters ended by `:`, and one or more decimal
-/// numbers with units, which are added. A number without a unit counts seconds (tmpfiles.d(5), Age).
+/// Reads an age (tmpfiles.d(5), "Age"). The text begins with an optional `~`, which spares the first level. An optional
+/// list of timestamp letters follows, ended by `:`. Then come one or more decimal numbers with units, which are added.
+/// A number without a unit counts seconds. The answer is the age, or the first fault in the order of `AgeFault`.
 pub fn parse_age(text: &[u8]) -> Result<Age, AgeFault>
     ensures { result ≡ age_of text.now }
 {

@@ -6,8 +6,8 @@ ghost use Rattle.pv_age.specs.Stamps.{letter_bit, stamps_of, stamps_with};
 use crate::age_fault::AgeFault;
 use bitflags::{Flag, Flags, bitflag_items};
 
-/// The timestamps that an age looks at, one for each letter: access, birth, change and modify, of objects
-/// that are no directories by the lower case letter, and of directories by the upper case letter.
+/// The timestamps that an age looks at, one for each letter (tmpfiles.d(5), "Age"). They are access, birth, change and
+/// modify. A lower case letter is for objects that are not directories, an upper case letter for directories.
 #[derive(Clone, Copy, PartialEq, Eq)]
 pub struct StampSet(u8);
 

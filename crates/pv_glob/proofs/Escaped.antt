@@ -144,7 +144,7 @@ component_clear bytes =
 
 -- ---- names
 
--- an escaped name is a word without special bytes only where the name is this word
+-- an escaped name is a word without special bytes only if the name is this word
 same_escaped : (bytes word : List ℕ) → list_any is_special word ≡ false → same_bytes (escaped bytes) word ≡ same_bytes bytes word
 same_escaped [] word h = refl
 same_escaped (b ∷ bytes) [] h = by_test (is_special b) refl
@@ -159,7 +159,7 @@ same_escaped (b ∷ bytes) (c ∷ word) h = by_test (or_parts (is_special c) (li
     by_test clear below true e = rw (e, differs 92 c refl clear.0, differs b c e clear.0) refl
     by_test clear below false e = rw e (ap (λ (t : Bool). (b == c) && t) (below clear.1))
 
--- and it begins with such a word only where the name does
+-- and it begins with such a word only if the name does
 begins_escaped : (bytes word : List ℕ) → list_any is_special word ≡ false → starts_with nat_eq (escaped bytes) word ≡ starts_with nat_eq bytes word
 begins_escaped bytes [] h = refl
 begins_escaped [] (c ∷ word) h = refl

@@ -175,7 +175,7 @@ ranks-same (a ∷ u) (b ∷ v) e =
     let tail : map rank u ≡ map rank v = cc in
     ap (λ x. x ∷ u) (rank-same a b head) ∙ ap (λ (x : List ℕ). b ∷ x) (ranks-same u v tail)
 
--- before the first question only the start has a word, which is empty
+-- before the first query only the start has a word, which is empty
 pub starts : (machine : Machine) (others : ℕ) → machine.places ≡ others + 1 → IsSearched machine (Some [] ∷ replicate others None) (0 ∷ [])
 starts machine others places = (
   0,
@@ -245,7 +245,7 @@ module _ (machine : Machine) (found : Found) (level : List ℕ) (searched : IsSe
 abbrev tally : Option (List ℕ) → ℕ
 tally o = cond (is_none o) 1 0
 
--- before the first question all places but the start have no word
+-- before the first query all places but the start have no word
 pub unfound-start : (others : ℕ) → unfound (Some [] ∷ replicate others None) ≡ others
 unfound-start others =
     let first = sum_by-cons tally (Some []) (replicate others None) in

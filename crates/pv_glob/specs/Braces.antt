@@ -18,7 +18,7 @@ pub record Rest : Type 0 where
 abbrev pub nothing : Rest
 nothing = record { words = [] ∷ []; others = [] }
 
--- The next definitions take what is left behind a place: of each pair of braces that is open there, the innermost first, and of the component last. They give what is left at the place itself, or nothing where the braces are not balanced.
+-- The next definitions take what is left behind a place: of each pair of braces that is open there, the innermost first, and of the component last. They give what is left at the place itself, or nothing if the braces are not balanced.
 
 -- an element stands in front of each word
 abbrev pub with_element : Element → List Rest → List Rest
@@ -42,7 +42,7 @@ with_open [] = []
 with_open (component ∷ []) = []
 with_open (pair ∷ outer ∷ around) = record { words = joined (pair.words ++ pair.others) outer.words; others = outer.others } ∷ around
 
--- what stands at a place of a component
+-- the object at a place of a component
 abbrev pub with_place : List ℕ → List Rest → List Rest
 with_place place rests =
     if slice_index place 0 == 123 then with_open rests
@@ -61,11 +61,11 @@ whole [] = None
 whole (component ∷ []) = Some component.words
 whole (pair ∷ outer ∷ around) = None
 
--- the words without braces that come of choosing one alternative for each pair of braces, the outer ones first; nothing where braces are not balanced
+-- the words without braces that come of choosing one alternative for each pair of braces, the outer ones first; nothing if braces are not balanced
 abbrev pub expansions_of : List ℕ → Option (List (List Element))
 expansions_of component = whole (rests_of (elements_of component))
 
--- the words, where there are at most this many
+-- the words, if there are at most this many
 abbrev pub within : ℕ → Option (List (List Element)) → Option (List (List Element))
 within most None = None
 within most (Some words) = if nat_lt most (length words) then None else Some words

@@ -53,7 +53,7 @@ has_sign (b ∷ text) = b == 33 || b == 94
 abbrev pub sign_length : List ℕ → ℕ
 sign_length text = if has_sign text then 1 else 0
 
--- what stands in a bracket, of what follows its `[`; nothing where it has no end
+-- what stands in a bracket, of what follows its `[`; nothing if it has no end
 abbrev pub body_of : List ℕ → Option (List ℕ)
 body_of text = option_map (λ n. take n (drop (sign_length text) text)) (body_length (drop (sign_length text) text))
 

@@ -4,7 +4,7 @@ use Rattle.pv_glob.specs.declared.element.Element.{Element}
 use Rattle.pv_glob.specs.declared.element.Element.TheVariants.{Any, Many}
 use Rattle.pv_path.specs.Names.{is_name_byte}
 
--- whether an element takes any byte, but for a period with which a name begins
+-- whether an element takes any byte, except for a period with which a name begins
 abbrev pub is_wild : Element → Bool
 is_wild Any = true
 is_wild Many = true

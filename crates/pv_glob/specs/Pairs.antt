@@ -13,7 +13,7 @@ use Rattle.pv_glob.specs.Machines.{Machine}
 
 -- ---- names of any length
 
--- whether bytes are a name but for their number: not empty, neither `.` nor `..`, and no staging name
+-- whether bytes are a name except for their number: not empty, neither `.` nor `..`, and no staging name
 abbrev pub could_be_name : List ℕ → Bool
 could_be_name word = nat_le 1 (length word) && list_all is_name_byte word && not (is_dots word) && not (is_staging word)
 

@@ -35,7 +35,7 @@ abbrev pub Finds : (Path → Bool) → Option Path → Type 0
 Finds test None = (path : Path) → test path ≡ false
 Finds test (Some path) = IsFirst shared_cmp test path
 
--- the earlier of two paths, where there are any
+-- the earlier of two paths, if there are any
 abbrev pub earlier_of : Option Path → Option Path → Option Path
 earlier_of None next = next
 earlier_of (Some path) None = Some path

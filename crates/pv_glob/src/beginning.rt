@@ -95,7 +95,7 @@ impl Beginning {
         }
     }
 
-    /// Whether a byte may follow in a name that is no staging name.
+    /// Whether a byte may follow in a name that is not a staging name.
     pub(crate) fn may_precede(self, byte: u8) -> bool
         ensures { result ≡ may_follow self byte }
     {

@@ -66,7 +66,7 @@ impl Reading {
         })
     }
 
-    /// Reads `}`, or answers nothing where no pair is open or there are more than `most` words.
+    /// Reads `}`, or answers nothing if no pair is open or there are more than `most` words.
     fn close(self, alloc: Global, most: usize) -> Result<Option<Reading>, AllocError>
         ensures read { IfOk result (λ r. IfSome r (λ new. (places : List (List ℕ)) → meaning new places ≡ continued self (with_close (rests_of places)))) }
         ensures beyond { IfOk result (λ r. IfNone r ((places : List (List ℕ)) → within most (continued self (with_close (rests_of places))) ≡ None)) }
@@ -86,7 +86,7 @@ impl Reading {
         }))
     }
 
-    /// Reads what stands at a place, or answers nothing where it closes no pair or there are more than
+    /// Reads the item at an index. It answers nothing if the item closes no pair of braces, or there are more than
     /// `most` words.
     fn read(self, alloc: Global, place: &[u8], most: usize) -> Result<Option<Reading>, AllocError>
         requires { 0 < length place.now }
@@ -101,7 +101,7 @@ impl Reading {
         }
     }
 
-    /// What has been read, or nothing where a pair is open.
+    /// What has been read, or nothing if a pair is open.
     fn finish(self) -> Option<Words>
         ensures value { result ≡ meaning self [] }
         ensures some { IfSome result (λ words. 0 < length words) }
@@ -111,7 +111,7 @@ impl Reading {
     }
 }
 
-/// The expansions of a component, or nothing where its braces are not balanced or there are more than
+/// The expansions of a component, or nothing if its braces are not balanced or there are more than
 /// `most`.
 pub(crate) fn expansions_within(
     alloc: Global,

@@ -64,7 +64,7 @@ fn token_length(text: &[u8]) -> Option<usize>
     }
 }
 
-/// How many bytes a bracket has between its sign and its end, or nothing where it has no end.
+/// How many bytes a bracket has between its sign and its end, or nothing if it has no end.
 fn body_length(text: &[u8]) -> Option<usize>
     ensures value { result ≡ body_length text.now }
     ensures within { IfSome result (λ n. n < length text.now) }
@@ -103,7 +103,7 @@ pub(crate) fn sign_length(text: &[u8]) -> usize
     if has_sign(text) { 1 } else { 0 }
 }
 
-/// What stands in a bracket, of what follows its `[`; nothing where it has no end.
+/// What stands in a bracket, of what follows its `[`; nothing if it has no end.
 pub(crate) fn body_of(text: &[u8]) -> Option<&[u8]>
     ensures { option_map (λ s. s.now) result ≡ body_of text.now }
 {
@@ -141,7 +141,7 @@ fn is_bad_range(place: &[u8]) -> bool
     is_range(place) && (opens_class(behind(place, 2)) || byte_at(place, 2) < byte_at(place, 0))
 }
 
-/// The ranges of the class that stands here, or nothing where there is no such class.
+/// The ranges of the class that stands here, or nothing if there is no such class.
 fn class_at(place: &[u8]) -> Option<&'static [ByteRange]>
     requires { 0 < length place.now }
     ensures { option_map (λ s. s.now) result ≡ class_at place.now }
@@ -154,7 +154,7 @@ fn class_at(place: &[u8]) -> Option<&'static [ByteRange]>
     }
 }
 
-/// The first `count` bytes of a text, or all of them where there are fewer.
+/// The first `count` bytes of a text, or all of them if there are fewer.
 fn front(text: &[u8], count: usize) -> &[u8]
     ensures { result.now ≡ take count text.now }
 {

@@ -120,7 +120,7 @@ const XDIGIT: [ByteRange; 3] = [
     },
 ];
 
-/// The ranges of a class of ASCII bytes, or nothing where there is no class of this name.
+/// The ranges of a class of ASCII bytes, or nothing if there is no class of this name.
 pub(crate) fn class_named(name: &[u8]) -> Option<&'static [ByteRange]>
     ensures { option_map (λ s. s.now) result ≡ class_named name.now }
 {

@@ -1,4 +1,4 @@
-//! Elements of a component: what stands at a place, and which faults it has.
+//! Elements of a component: the element at an index, and its faults.
 ghost use Rattle.std.specs.Prelude.{◌≡◌, [], ◌∷◌, ◌<◌, find, length, IfOk};
 ghost use Rattle.std.specs.List.{list_any};
 ghost use Rattle.pv_glob.specs.declared.pattern_fault.PatternFault.TheVariants.{UnclosedBracket, BadRange, BadClass, Brace};

@@ -63,7 +63,7 @@ fn is_after(a: &TreePath, b: &TreePath) -> bool
     path_order(a, b) == Ordering::Greater
 }
 
-/// The earlier of two paths, where there are any. It takes no memory.
+/// The earlier of two paths, if there are any. It takes no memory.
 pub(crate) fn earlier(found: Option<TreePath>, next: Option<TreePath>) -> Option<TreePath>
     ensures { result ≡ earlier_of found next }
 {

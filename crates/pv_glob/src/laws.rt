@@ -5,8 +5,8 @@ ghost use Rattle.pv_glob.specs.Escaping.{escaped_path};
 ghost use Rattle.pv_glob.specs.Matching.{literal_of};
 ghost use Rattle.pv_glob.specs.Parsing.{pattern_of};
 
-/// The text of a path with each of `\ * ? [ { }` after a backslash spells the pattern that matches this
-/// path alone, where it is no longer than the text of a pattern may be.
+/// A path with each of `\ * ? [ { }` after a backslash is the text of a pattern. The pattern matches this path alone,
+/// if the text is no longer than that of a pattern may be.
 pub fn an_escaped_path_spells_its_literal()
     ensures { (path : Path) → has_names path ≡ true → has_staging path ≡ false
         → length (escaped_path path) ≤ 4095 → pattern_of (escaped_path path) ≡ Ok (literal_of path ∷ []) }

@@ -10,7 +10,7 @@ use crate::plain::Plain;
 use pv_path::{Bytes, Name, is_name, is_staging};
 use std::alloc::{AllocError, Global};
 
-/// The bytes of a component of written bytes alone, or nothing where it has another element (glob(7)).
+/// The bytes of a component of written bytes alone, or nothing if it has another element (glob(7)).
 pub fn written(alloc: Global, component: &Component) -> Result<Option<Bytes>, AllocError>
     ensures { IfOk result (λ bytes. bytes ≡ written component.now) }
 {
@@ -24,7 +24,7 @@ pub fn written(alloc: Global, component: &Component) -> Result<Option<Bytes>, Al
     Ok(Some(bytes))
 }
 
-/// Whether a component matches a name that is no staging name.
+/// Whether a component matches a name that is not a staging name.
 fn is_matched(alloc: Global, component: &Component, name: &Name) -> Result<bool, AllocError>
     requires { is_staging name.now ≡ false }
     ensures { IfOk result (λ matched. matched ≡ component_matches component.now name.now) }

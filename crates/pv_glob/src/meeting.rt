@@ -26,7 +26,7 @@ pub struct Reach {
     pub below: bool,
 }
 
-/// The first name of any length that two components match, or nothing where they match none.
+/// The first name of any length that two components match, or nothing if they match none.
 fn first_word(alloc: Global, a: &Component, b: &Component) -> Result<Option<Bytes>, AllocError>
     ensures none { IfOk result (λ found. IsNone found → (word : List ℕ) → is_shared a.now b.now word ≡ false) }
     ensures first { IfOk result (λ found. IfSome found (IsFirst word_cmp (is_shared a.now b.now))) }
@@ -36,7 +36,7 @@ fn first_word(alloc: Global, a: &Component, b: &Component) -> Result<Option<Byte
     least_word(alloc, &mut machine, places)
 }
 
-/// The first name that two components match, or nothing where they match none, found by a machine. A name has at most
+/// The first name that two components match, or nothing if they match none, found by a machine. A name has at most
 /// 255 bytes.
 fn searched_name(alloc: Global, a: &Component, b: &Component) -> Result<Option<Name>, AllocError>
     ensures none { IfOk result (λ found. IsNone found → (name : List ℕ) → shares a.now b.now name ≡ false) }
@@ -54,7 +54,7 @@ fn searched_name(alloc: Global, a: &Component, b: &Component) -> Result<Option<N
     }
 }
 
-/// The first name that two components match, or nothing where they match none. Written bytes match one name alone, so
+/// The first name that two components match, or nothing if they match none. Written bytes match one name alone, so
 /// where one of the two is written no machine is made.
 fn first_name(alloc: Global, a: &Component, b: &Component) -> Result<Option<Name>, AllocError>
     ensures none { IfOk result (λ found. IsNone found → (name : List ℕ) → shares a.now b.now name ≡ false) }
@@ -102,7 +102,7 @@ fn component_at<'a>(a: &'a [Component], b: &'a [Component], at: usize) -> &'a Co
     if at < a.len() { &a[at] } else { &b[at] }
 }
 
-/// The first path that two patterns without braces reach, or nothing where they reach none together.
+/// The first path that two patterns without braces reach, or nothing if they reach none together.
 fn meet_plain(
     alloc: Global,
     a: &[Component],
@@ -128,7 +128,7 @@ fn meet_plain(
     Ok(Some(path))
 }
 
-/// The first path that a pattern without braces and any of some others reach, or nothing where it reaches none with
+/// The first path that a pattern without braces and any of some others reach, or nothing if it reaches none with
 /// them.
 fn meet_each(
     alloc: Global,
@@ -147,7 +147,7 @@ fn meet_each(
     Ok(found)
 }
 
-/// The first path that any of some patterns without braces and any of some others reach, or nothing where there is
+/// The first path that any of some patterns without braces and any of some others reach, or nothing if there is
 /// none.
 fn meet_all(
     alloc: Global,
@@ -166,9 +166,9 @@ fn meet_all(
     Ok(found)
 }
 
-/// The first path in the intersection of two reaches: of fewest names, name by name the shortest, and of those as long
-/// the first in the order of bytes `a` to `z`, `0` to `9`, `A` to `Z` and then by value. It answers nothing exactly
-/// where no path is in both.
+/// The first path in the intersection of two reaches, or nothing exactly if no path is in both. First is the path with
+/// the fewest names, and among those the one with the shortest names, name by name. Names of one length are in the
+/// order of bytes `a` to `z`, `0` to `9`, `A` to `Z` and then by value.
 pub fn meet(alloc: Global, a: &Reach, b: &Reach) -> Result<Option<TreePath>, AllocError>
     ensures none { IfOk result (λ found. IsNone found → (path : Path) → are_met a.now.pattern a.now.below b.now.pattern b.now.below path ≡ false) }
     ensures first { IfOk result (λ found. IfSome found (IsFirst shared_cmp (are_met a.now.pattern a.now.below b.now.pattern b.now.below))) }

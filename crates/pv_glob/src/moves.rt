@@ -19,12 +19,12 @@ pub struct Move {
 /// Moves in some order.
 pub type MoveList = Sequence<Move>;
 
-/// A machine that reads words. It tells its places by questions, of which it answers a number that is left.
+/// An automaton that reads words. Its states are known by queries, and it answers as many as are left.
 pub trait Moves {
     /// The machine: its places, its ends, and where bytes lead. No call changes it.
     ghost machine: { Self → Machine };
 
-    /// How many questions are left.
+    /// How many queries are left.
     ghost questions: { Self → ℕ };
 
     /// Whether a place is an end. It takes no memory.
@@ -32,7 +32,7 @@ pub trait Moves {
         requires { at < (machine self.now).places }
         ensures { result ≡ (machine self.now).is_end at };
 
-    /// The moves that go from a place. It spends one question, after running out of memory too.
+    /// The moves from a state. It spends one query, after running out of memory too.
     fn moves(&mut self, alloc: Global, at: u32) -> Result<MoveList, AllocError>
         requires place { at < (machine self.old).places }
         requires question { 0 < questions self.old }

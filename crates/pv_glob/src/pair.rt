@@ -77,8 +77,8 @@ fn with_bytes(run: Option<Move>, high: u8, to: Option<u32>) -> Option<Move>
     }
 }
 
-/// The last of the bytes from one on that surely lead where this one leads: where one of the two elements at a spot is a
-/// byte, all others lead nowhere; `*` and `?` tell few bytes apart.
+/// The last byte of the run from one byte on that surely leads to the same state. If one of the two elements at a spot
+/// is a byte, all other bytes lead nowhere. `*` and `?` treat few bytes differently.
 fn last_alike(components: Components<'_>, spot: Spot, byte: u8) -> u8
     requires left { spot.left < length components.left.now }
     requires right { spot.right < length components.right.now }
@@ -174,9 +174,9 @@ fn moves_from(alloc: Global, components: Components<'_>, spot: Spot) -> Result<M
     Ok(moves)
 }
 
-/// The machine whose words are the names of any length that two components of patterns both match (glob(7)):
-/// not empty, without slash and NUL, neither `.` nor `..`, and no staging name. It answers as many questions as it
-/// has places.
+/// The automaton whose words are the names of any length that two components of patterns both match (glob(7)). Such a
+/// name is not empty, has no slash and no NUL, is neither `.` nor `..`, and is not a staging name. It answers as many
+/// queries as it has states.
 #[derive(Drop)]
 pub struct PairMachine {
     first: Component,
@@ -213,7 +213,7 @@ pub(crate) fn copied(component: &Component) -> Result<Component, AllocError>
     component.clone()
 }
 
-/// The number of places of a machine of components with so many elements, or nothing where they are too many to
+/// The number of places of a machine of components with so many elements, or nothing if they are too many to
 /// count.
 fn places_of(left: usize, right: usize) -> Option<u32>
     ensures { IfSome result (λ places. places ≡ 7 * ((left + 1) * (right + 1))) }
@@ -223,7 +223,7 @@ fn places_of(left: usize, right: usize) -> Option<u32>
 }
 
 impl PairMachine {
-    /// The machine of the components of two patterns at a place counted from 0. Its words are the names that both
+    /// The machine of the components of two patterns at an index counted from 0. Its words are the names that both
     /// match, however long.
     pub fn of(alloc: Global, a: &Plain, b: &Plain, i: usize) -> Result<PairMachine, AllocError>
         requires left { i < length a.now }

@@ -18,6 +18,11 @@ const MOST_EXPANSIONS: usize = 256;
 
 /// The pattern that a text spells, or the first fault in the order of `PatternFault` (glob(7)).
 /// Slashes in a row count as one, and a last slash is dropped.
+///
+/// ```text
+/// let pattern = parse_pattern(alloc, b"/var/{log,cache}/*.tmp")?;
+/// matches(&pattern, &parse_path(alloc, b"/var/log/a.tmp")?)   // true
+/// ```
 pub fn parse_pattern(alloc: Global, text: &[u8]) -> Result<Pattern, PatternFault>
     ensures { Gives result (pattern_of text.now) }
 {

@@ -105,8 +105,8 @@ fn some_matches(plains: &[Plain], names: &[Name]) -> bool
     plains.iter().any(|plain| plain.matches(names))
 }
 
-/// Whether a pattern matches a path (glob(7)): some expansion has as many components as the path has
-/// names, each matches its name, and no name is a staging name. It takes no memory.
+/// Whether a pattern matches a path (glob(7)). It does if some expansion has as many components as the path has names,
+/// each component matches its name, and no name is a staging name. It takes no memory.
 pub fn matches(pattern: &Pattern, path: &TreePath) -> bool
     ensures { result ≡ some_matches pattern.now path.now }
 {

@@ -1,11 +1,11 @@
-//! Why a text is no pattern.
+//! Why a text is not a pattern.
 ghost use Rattle.std.specs.Prelude.{◌≡◌};
 ghost use Rattle.pv_glob.specs.declared.pattern_fault.PatternFault.TheVariants.{Memory};
 
 use std::alloc::AllocError;
 use thiserror::Error;
 
-/// Why a text is no pattern. The first five are looked for in the text, the next five in its
+/// Why a text is not a pattern. The first five are looked for in the text, the next five in its
 /// components from the left; running out of memory may come at any time.
 #[derive(Clone, Copy, Debug, PartialEq, Eq, Error)]
 pub enum PatternFault {

@@ -1,5 +1,5 @@
-//! The search of a machine for its first word, level by level: each level holds the places that the words of one
-//! more byte lead to, and each place the first word found to it.
+//! The search of an automaton for its first word, level by level. Each level holds the states that words of one more
+//! byte lead to, each with the first word found to it.
 ghost use Rattle.std.specs.Prelude.{◌≡◌, ℕ, ◌+◌, ◌<◌, ◌≤◌, List, [], ◌∷◌, ◌++◌, true, false, length, map, replicate, set, ◌-◌, All, Contains, Some, None, is_none, is_some, IfOk, IfSome, IsNone, OnOk, if◌then◌else◌};
 ghost use Rattle.std.specs.Ordering.{is_gt};
 ghost use Rattle.pv_glob.specs.Machines.{reads};
@@ -102,7 +102,7 @@ fn is_earlier(word: &Word, first: &Option<Word>) -> bool
     }
 }
 
-/// The first word that was found to an end among the places of a level, or nothing where none is an end.
+/// The first word that was found to an end among the places of a level, or nothing if none is an end.
 fn first_end<M: Moves>(
     machine: &M,
     found: &Vec<Option<Word>>,
@@ -123,7 +123,7 @@ fn first_end<M: Moves>(
     Ok(first)
 }
 
-/// What is found before the first question: the empty word, to the first of some places.
+/// What is found before the first query: the empty word, which leads to the first of some states.
 fn start(alloc: Global, places: u32) -> Result<Vec<Option<Word>>, AllocError>
     requires { 1 ≤ places }
     ensures { IfOk result (λ found. found.items ≡ Some [] ∷ replicate (places - 1) None) }
@@ -148,9 +148,9 @@ fn spelled(alloc: Global, word: &Word) -> Result<Bytes, AllocError>
     Ok(bytes)
 }
 
-/// The least word of an automaton: the shortest that leads from its first place to an end, of those as long the first in the
-/// order of bytes `a` to `z`, `0` to `9`, `A` to `Z` and then by value, or nothing where no word does. `places` is
-/// the number of places. It asks at most as many questions as there are places.
+/// The least word of an automaton: the shortest word that leads from its first state to an end, or nothing if no word
+/// does. Words of one length are in the order of bytes `a` to `z`, `0` to `9`, `A` to `Z` and then by value. `places`
+/// is the number of states. It makes at most as many queries as there are states.
 pub fn least_word<M: Moves>(
     alloc: Global,
     machine: &mut M,

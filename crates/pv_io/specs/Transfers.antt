@@ -6,6 +6,6 @@ use Rattle.std.specs.Io.KnownBytes.{Appends, Consumes}
 abbrev pub ConsumesFront : Option (List ℕ) → Option (List ℕ) → Type 0
 ConsumesFront old new = (taken : List ℕ) × Consumes old new taken
 
--- a front part of the bytes, and not all of them, was appended
+-- a prefix of the bytes, and not all of them, was appended
 abbrev pub AppendsFront : Option (List ℕ) → Option (List ℕ) → List ℕ → Type 0
 AppendsFront old new bytes = (k : ℕ) × (k < length bytes) × Appends old new (take k bytes)

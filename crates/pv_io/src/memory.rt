@@ -111,10 +111,8 @@ impl Model for MemSink {
 }
 
 impl MemSink {
-    /// An empty sink that takes pieces of at most `most` bytes, which is at least 1, and has room
-    /// for `room` bytes in all; its calls with the listed numbers fail, counted from 0.
-    ///
-    /// It reserves its room, so that no write takes memory.
+    /// An empty sink with room for `room` bytes in all. It takes pieces of at most `most` bytes, which is at least 1.
+    /// Its calls with the listed numbers, counted from 0, fail. It reserves its room, so that no write takes memory.
     pub fn new(
         alloc: Global,
         most: usize,

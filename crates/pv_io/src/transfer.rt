@@ -17,10 +17,9 @@ pub trait Source {
 
     ghost calls: { Self → Option ℕ };
 
-    /// Puts the next bytes at the front of the buffer, which is not empty, and answers how many.
-    ///
-    /// The answer is 0 only at the end of the input, and there always where the bytes left are
-    /// told. `Failed` comes only where the count of faults rose, and then no byte was taken.
+    /// Puts the next bytes at the front of the buffer, which is not empty, and answers how many. The answer is 0 only
+    /// at the end of the input. If the bytes left are known, it is always 0 there. `Failed` comes only if the count of
+    /// faults rose, and then no byte was taken.
     fn read(&mut self, buf: &mut [u8]) -> Result<usize, Failed>
         requires { 0 < length buf.old }
         ensures fits { IfOk result (λ n. n ≤ length buf.new) }
@@ -46,7 +45,7 @@ pub trait Sink {
     /// Takes bytes from the front of the piece, which is not empty, and answers how many: at least
     /// one, and at most all.
     ///
-    /// `Failed` comes only where the count of faults rose, and then no byte was taken. A sink
+    /// `Failed` comes only if the count of faults rose, and then no byte was taken. A sink
     /// whose device takes nothing counts a fault.
     fn write(&mut self, bytes: &[u8]) -> Result<usize, Failed>
         requires { 0 < length bytes.now }

@@ -17,7 +17,7 @@ const PIECE: usize = 8192;
 
 /// Reads what the source has left, to its end.
 ///
-/// `TooLong` comes exactly where more than [`MOST_BYTES`] bytes were given, and `ReadFault` only
+/// `TooLong` comes exactly if more than [`MOST_BYTES`] bytes were given, and `ReadFault` only
 /// where the source's count of faults rose. It ends after at most `MOST_BYTES + 1` reads.
 pub fn read_all<S: Source>(alloc: Global, source: &mut S) -> Result<Vec<u8>, ReadAllFault>
     ensures ok { IfOk result (λ v. IfSome (S.left source.old) (λ xs. v.items ≡ xs)) }
@@ -74,11 +74,9 @@ fn read_piece<S: Source>(source: &mut S, content: &mut Vec<u8>) -> Result<usize,
     Ok(count)
 }
 
-/// Writes the bytes, and takes no memory.
-///
-/// Each write is offered all bytes that are not yet written, so there is at most one write for each
-/// byte. `WriteFault` comes only where the sink's count of faults rose; a front part of the bytes,
-/// and not all of them, is then written.
+/// Writes the bytes, and takes no memory. Each write is offered all bytes that are not yet written, so there is at most
+/// one write for each byte. `WriteFault` comes only if the sink's count of faults rose. Then a prefix of the bytes, and
+/// not all of them, is written.
 pub fn write_all_of<K: Sink>(sink: &mut K, bytes: &[u8]) -> Result<(), WriteFault>
     ensures ok { OnOk result (Appends (K.written sink.old) (K.written sink.new) bytes.now) }
     ensures front { OnErr result (AppendsFront (K.written sink.old) (K.written sink.new) bytes.now) }

@@ -25,7 +25,7 @@ bad_here b after at is = rw is refl
 pub undone_step : (b : ℕ) (after : List ℕ) (u : ℕ × ℕ) → unit_of b after ≡ Some u → unescaped (b ∷ after) ≡ u.0 ∷ unescaped (drop u.1 after)
 undone_step b after u is = rw is (ap (λ rest. u.0 ∷ rest) (undone_past u.1 after))
 
--- what stands in a text after its first byte, and what stands there after some bytes more, as slices give it
+-- what stands in a text after its first byte, and the object there after some bytes more, as slices give it
 abbrev pub after_first : List ℕ → List ℕ
 after_first rest = take (length rest - 1) (drop 1 rest)
 

@@ -37,7 +37,7 @@ past_other quote at i text hidden next below is other is_next =
     rw (is, is_next, drop-cons text i 0 below, add-one i)
     (no_quote_here quote (at + i) (get_or text i 0) (drop (suc i) text) other ∙ ap (λ n. closing_left quote (get_or text i 0 == 92) n (drop (suc i) text)) place)
 
--- the fields from a place on, by what stands there
+-- the fields from a place on, by the object there
 pub none_left : (left : ℕ) (line : List ℕ) (at : ℕ) → length line ≤ next_place line at → fields_from left line at ≡ Ok []
 unfolding fields_from
 none_left zero line at end = rw (le-ltb (next_place line at) (length line) end) refl

@@ -5,14 +5,14 @@ use Rattle.std.proofs.Common.{refl, sym, ap, ◌∙◌, zero, suc, add-one, appe
 use Rattle.std.proofs.Math.Seq.{take-length}
 use Rattle.pv_text.specs.GivenMessages.{MessagesPart}
 
--- a front part of a list is one of a longer list
+-- a prefix of a list is one of a longer list
 pub front_of : (a b : List (List ℕ)) (n : ℕ) → (m : ℕ) × (take n a ≡ take m (a ++ b))
 front_of [] b zero = (0, refl)
 front_of [] b (suc n) = (0, refl)
 front_of (x ∷ a) b zero = (0, refl)
 front_of (x ∷ a) b (suc n) = let below = front_of a b n in (suc below.0, ap (λ (r : List (List ℕ)). x ∷ r) below.1)
 
--- so is all of it and a front part of the rest
+-- so is all of it and a prefix of the rest
 pub back_of : (a b : List (List ℕ)) (n : ℕ) → (m : ℕ) × (a ++ take n b ≡ take m (a ++ b))
 back_of [] b n = (n, refl)
 back_of (x ∷ a) b n = let below = back_of a b n in (suc below.0, ap (λ (r : List (List ℕ)). x ∷ r) below.1)

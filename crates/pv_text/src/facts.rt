@@ -56,7 +56,7 @@ impl Facts {
         Ok(())
     }
 
-    /// The value of a letter, or nothing where it has none. It takes no memory.
+    /// The value of a letter, or nothing if it has none. It takes no memory.
     pub fn get(&self, letter: u8) -> Option<&[u8]>
         ensures value { option_copied result ≡ map.get self.now letter }
         ensures facts { HasFactsAlone self.now }

@@ -67,7 +67,7 @@ impl Messages {
         self.lines.len()
     }
 
-    /// The line at a place counted from 0, or nothing past the end.
+    /// The line at an index counted from 0, or nothing past the end.
     pub fn line(&self, i: usize) -> Option<&[u8]>
         ensures value { option_copied result ≡ slice_get self.now i }
         ensures line { IfSome result (λ line. is_line line.now ≡ true) }
@@ -79,7 +79,7 @@ impl Messages {
     }
 }
 
-/// Says all messages of a list. Where memory runs out nothing or a front part of it is said.
+/// Says all messages of a list. If memory runs out, nothing or a prefix of them is said.
 pub fn say_all(new_messages: &Messages, messages: &mut Messages) -> Result<(), AllocError>
     ensures ok { OnOk result (messages.new ≡ messages.old ++ new_messages.now) }
     ensures part { MessagesPart new_messages.now messages.old messages.new }
@@ -90,7 +90,7 @@ pub fn say_all(new_messages: &Messages, messages: &mut Messages) -> Result<(), A
     Ok(())
 }
 
-/// Says the message at a place of a list, where there is one.
+/// Says the message at a place of a list, if there is one.
 fn say_one(new_messages: &Messages, i: usize, messages: &mut Messages) -> Result<(), AllocError>
     ensures ok { OnOk result (messages.new ≡ messages.old ++ option_to_list (slice_get new_messages.now i)) }
     ensures err { OnErr result (messages.new ≡ messages.old) }

@@ -30,7 +30,7 @@ abbrev pub undashed : Option Parts → Option Parts
 undashed None = None
 undashed (Some parts) = if list_any is_dash parts.files then None else Some parts
 
--- what a word brings is no file word that is a dash
+-- what a word brings is not a file word that is a dash
 abbrev IsClean : Part → Type 0
 IsClean part.Nothing = Unit {0}
 IsClean (part.Given g) = Unit {0}

@@ -3,7 +3,7 @@ use Rattle.std.specs.Prelude.{◌≡◌, Option, Some, None, Result, Ok, Err}
 use Rattle.pv_words.specs.declared.words_fault.WordsFault.{WordsFault}
 use Rattle.pv_words.specs.declared.words_fault.WordsFault.TheVariants.{Usage, Memory}
 
--- Ok has the definition's value, Usage comes exactly where it has none, and running out of memory is free
+-- Ok has the definition's value, Usage comes exactly if it has none, and running out of memory is free
 abbrev pub Answers : {A : Type 0} → Result A WordsFault → Option A → Type 0
 Answers (Ok value) meaning = meaning ≡ Some value
 Answers (Err Usage) meaning = meaning ≡ None

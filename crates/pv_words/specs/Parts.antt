@@ -1,7 +1,7 @@
 -- The words after the tool, cut into options with their values and file words, in the form that
 -- systemd-tmpfiles(8) and systemd-sysusers(8) share with all commands that read words by getopt_long(3):
 -- `--NAME`, `--NAME=VALUE`, `--NAME VALUE`, and `--` at the end of the options. That names stand in full, that
--- a value in a word of its own begins with no dash, and that `-` is no file word are this profile's own.
+-- a value in a word of its own begins with no dash, and that `-` is not a file word are this profile's own.
 use Rattle.std.specs.Prelude.{ℕ, ◌+◌, Bool, false, not, ◌&&◌, ◌==◌, nat_eq, List, [], ◌∷◌, ◌++◌, take, drop, codes, position, Option, Some, None, option_and_then, if◌then◌else◌}
 use Rattle.std.specs.List.{starts_with}
 use Rattle.std.specs.Option.{option_map}

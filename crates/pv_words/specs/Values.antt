@@ -54,7 +54,7 @@ value_by PathOf = path_value
 value_by Decimal = decimal_value
 value_by Moment = moment_value
 
--- the value of an option that may be absent, by its reader; nothing where the reader does not take it
+-- the value of an option that may be absent, by its reader; nothing if the reader does not take it
 abbrev pub optional : {A : Type 0} → (List ℕ → Option A) → Option (List ℕ) → Option (Option A)
 optional reader None = Some None
 optional reader (Some text) = option_map Some (reader text)

@@ -1,4 +1,4 @@
-//! The command that `clap` is told, made from the option table.
+//! The command line for `clap`, made from the option table.
 ghost use Rattle.std.specs.Prelude.{◌≡◌, IfOk, false};
 ghost use Rattle.clap.specs.Simple.{app_of, with_rule};
 ghost use Rattle.clap.specs.Walk.{rule_of};

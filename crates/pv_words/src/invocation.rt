@@ -22,7 +22,7 @@ const MOST_LINES: u32 = 2000;
 
 /// What the words of a command ask for: `generate SEED COUNT`, or else what its tool and options mean.
 ///
-/// `Usage` comes exactly where they mean nothing.
+/// `Usage` comes exactly if they mean nothing.
 pub fn parse_args(alloc: Global, words: &[String]) -> Result<Invocation, WordsFault>
     ensures { Answers result (parse_args (map string_bytes words.now)) }
 {

@@ -60,7 +60,7 @@ struct Values {
 
 /// What the words of a command mean, the first of which names the tool.
 ///
-/// `Usage` comes exactly where they mean nothing.
+/// `Usage` comes exactly if they mean nothing.
 pub fn options_of(alloc: Global, words: &[String]) -> Result<Options, WordsFault>
     ensures { Answers result (options_of (map string_bytes words.now)) }
 {

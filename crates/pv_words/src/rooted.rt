@@ -41,7 +41,7 @@ impl<'a> Model for Cut<'a> {
 
 /// The folder that words name by `--root`, with what the other words mean.
 ///
-/// `Usage` comes exactly where they name none, or the other words mean nothing.
+/// `Usage` comes exactly if they name none, or the other words mean nothing.
 pub fn rooted_of(alloc: Global, words: &[String]) -> Result<Rooted, WordsFault>
     ensures { Answers result (rooted_of (map string_bytes words.now)) }
 {
@@ -137,7 +137,7 @@ fn cut_by<'a>(before: &'a [String], from: &'a [String]) -> Option<Cut<'a>>
     }
 }
 
-/// The value of `--root` where it is the next word, if that may be a value, and the words around it.
+/// The value of `--root` if it is the next word, if that may be a value, and the words around it.
 fn cut_next<'a>(before: &'a [String], words: &'a [String]) -> Option<Cut<'a>>
     ensures { result ≡ cut_next (map string_bytes before.now) (map string_bytes words.now) }
 {

@@ -11,7 +11,7 @@ use pv_path::{PathFault, TreePath, parse_path};
 use std::alloc::Global;
 use std::str;
 
-/// The path that a value spells, where there is a value.
+/// The path that a value spells, if there is a value.
 pub(crate) fn path_in(alloc: Global, value: Option<&[u8]>) -> Result<Option<TreePath>, WordsFault>
     ensures { Answers result (optional path_value (option_map (λ v. v.now) value.entry)) }
 {
@@ -32,7 +32,7 @@ fn path_value(alloc: Global, text: &[u8]) -> Result<TreePath, WordsFault>
     }
 }
 
-/// The decimal that a value spells, where there is a value.
+/// The decimal that a value spells, if there is a value.
 pub(crate) fn decimal_in(value: Option<&[u8]>) -> Result<Option<u64>, WordsFault>
     ensures { Answers result (optional decimal_value (option_map (λ v. v.now) value.entry)) }
 {
@@ -65,7 +65,7 @@ fn is_digits(text: &[u8]) -> bool
     true
 }
 
-/// The number that decimal digits spell, where there are any and it has 64 bits.
+/// The number that decimal digits spell, if there are any and it has 64 bits.
 fn number_of(digits: &str) -> Option<u64>
     requires { all_ascii_digits digits.now ≡ true }
     ensures { result ≡ decimal_value digits.now }
@@ -73,7 +73,7 @@ fn number_of(digits: &str) -> Option<u64>
     digits.parse().ok()
 }
 
-/// The moment that a value spells, in microseconds since 1970, where there is a value.
+/// The moment that a value spells, in microseconds since 1970, if there is a value.
 pub(crate) fn moment_in(value: Option<&[u8]>) -> Result<Option<u64>, WordsFault>
     ensures { Answers result (optional moment_value (option_map (λ v. v.now) value.entry)) }
 {

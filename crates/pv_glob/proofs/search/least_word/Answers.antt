@@ -6,7 +6,7 @@ use Rattle.pv_glob.specs.Words.{IsFirst, word_cmp}
 use Rattle.pv_glob.proofs.Levels.{starts, none_read, first_read, unfound-start}
 use Rattle.pv_glob.proofs.search.least_word.Goals as goal
 
--- the questions that are left are enough for the places without a word and those of the level
+-- the queries that are left are enough for the places without a word and those of the level
 cost_so_far : (all unfound level left places : ℕ) → (all + unfound) + level ≤ left + places → all ≤ left + places
 cost_so_far all unfound level left places h = omega arith
 
