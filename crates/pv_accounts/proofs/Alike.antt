@@ -1,4 +1,4 @@
--- Names with IDs that are alike: where no name comes twice, what IDs the names have says which IDs are held, and by whom.
+-- Names with IDs that are alike: if no name comes twice, what IDs the names have says which IDs are held, and by whom.
 use Rattle.std.proofs.Common.{◌≡◌, ℕ, Bool, true, false, not, ◌&&◌, ◌||◌, ◌==◌, List, [], ◌∷◌, Option, Some, None, refl, sym, ap, ◌∙◌, cond}
 use Rattle.std.specs.List.{list_any}
 use Rattle.std.specs.Str.{bytes_eq}

@@ -36,7 +36,7 @@ next_is p n = grind (arith, nat_tests)
 none_is_next : (n : ℕ) → (0 == suc n) ≡ false
 none_is_next n = grind (arith, nat_tests)
 
--- a line with an entry is the first with its name exactly where none before it has that name
+-- a line with an entry is the first with its name exactly if none before it has that name
 place_is : (t : List ℕ → Bool) (place : ℕ) (lines : List (List ℕ)) (l : List ℕ) (ls : List (List ℕ)) → drop place lines ≡ l ∷ ls → t l ≡ true → (position_or_len t lines == place) ≡ not (list_any t (take place lines))
 place_is t zero [] l ls e h = cc
 place_is t zero (x ∷ xs) l ls e h =

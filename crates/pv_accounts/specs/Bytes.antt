@@ -1,27 +1,28 @@
 -- The bytes that end lines, part fields and members, and mark lines that are no entries (passwd(5),
 -- group(5), shadow(5)).
+use Prim.Native.Char.{code}
 use Rattle.std.specs.Prelude.{ℕ}
 
 -- what ends a line
 abbrev pub line_end : ℕ
-line_end = 10
+line_end = code "\n"
 
 -- what stands between fields: `:`
 abbrev pub colon : ℕ
-colon = 58
+colon = code ":"
 
 -- what stands between members: `,`
 abbrev pub comma : ℕ
-comma = 44
+comma = code ","
 
 -- what a line that takes entries from elsewhere begins with: `+`
 abbrev pub plus : ℕ
-plus = 43
+plus = code "+"
 
 -- what a line that leaves such entries out begins with: `-`
 abbrev pub minus : ℕ
-minus = 45
+minus = code "-"
 
 -- what a line that is none begins with: `#`
 abbrev pub number_sign : ℕ
-number_sign = 35
+number_sign = code "#"

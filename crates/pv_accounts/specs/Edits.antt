@@ -27,7 +27,7 @@ abbrev pub is_end : List (List ℕ) → Bool
 is_end [] = true
 is_end (line ∷ lines) = false
 
--- the lines with entries before the first that begins with `+`, else at the end, where each line then
+-- the lines with entries before the first that begins with `+`, otherwise at the end, where each line then
 -- has its end; all other lines stay as they are
 abbrev pub with_entries : List (List ℕ) → List (List ℕ) → List (List ℕ)
 with_entries entries [] = entries ++ [] ∷ []
@@ -38,7 +38,7 @@ with_entries entries (line ∷ lines) =
 abbrev pub with_entry : List ℕ → List (List ℕ) → List (List ℕ)
 with_entry entry lines = with_entries (entry ∷ []) lines
 
--- a file with more entries; where there are none it stays as it is
+-- a file with more entries; if there are none it stays as it is
 abbrev pub appended : List (List ℕ) → List ℕ → List ℕ
 appended [] file = file
 appended (entry ∷ entries) file = text_of (with_entries (entry ∷ entries) (lines_of file))

@@ -3,7 +3,7 @@ ghost use Rattle.std.specs.Prelude.{◌≡◌, ◌<◌, ◌≤◌, ◌==◌, [],
 ghost use Rattle.std.specs.List.{prefix_len, slice_split};
 ghost use Rattle.pv_accounts.specs.Entries.{HasMore};
 
-/// What stands before the first place of a byte and what stands after it, or nothing where the text
+/// What stands before the first place of a byte and what stands after it, or nothing if the text
 /// has no such byte.
 pub fn cut(text: &[u8], byte: u8) -> Option<(&[u8], &[u8])>
     ensures parts { let pieces = slice_split (λ b. b == byte) text.now in

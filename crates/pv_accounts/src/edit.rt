@@ -14,7 +14,7 @@ use crate::entry::{group_entry, gshadow_parts};
 use crate::find::{Kind, place_of};
 use std::alloc::{AllocError, Global};
 
-/// A text with one more line, before the first line that begins with `+`, else at the end, where a last
+/// A text with one more line, before the first line that begins with `+`, otherwise at the end, where a last
 /// line without its end gets one first. All other lines stay as they are.
 pub fn append_entry(alloc: Global, file: &[u8], entry: &[u8]) -> Result<Vec<u8>, AllocError>
     ensures text { IfOk result (λ text. text.items ≡ text_of (with_entry entry.now (lines_of file.now))) }
@@ -24,7 +24,7 @@ pub fn append_entry(alloc: Global, file: &[u8], entry: &[u8]) -> Result<Vec<u8>,
     append_entries(alloc, file, &[entry])
 }
 
-/// A text with more lines, all before the first line that begins with `+`, else at the end, where a last
+/// A text with more lines, all before the first line that begins with `+`, otherwise at the end, where a last
 /// line without its end gets one first. All other lines stay as they are.
 pub fn append_entries(alloc: Global, file: &[u8], entries: &[&[u8]]) -> Result<Vec<u8>, AllocError>
     ensures { IfOk result (λ text. text.items ≡ appended (map (λ entry. entry.now) entries.now) file.now) }

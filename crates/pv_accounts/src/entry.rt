@@ -1,5 +1,5 @@
 //! Which lines are entries, and their fields (passwd(5), group(5), shadow(5), gshadow(5)).
-ghost use Rattle.std.specs.Prelude.{◌≡◌, ◌≤◌, ℕ, List, ◌∷◌, [], false, MatchOption, IfSome};
+ghost use Rattle.std.specs.Prelude.{◌≡◌, ℕ, List, ◌∷◌, [], false, MatchOption};
 ghost use Rattle.std.specs.Option.{option_map};
 ghost use Rattle.pv_acl.specs.Spelling.{decimal_id};
 ghost use Rattle.pv_accounts.specs.Entries.{is_entry_name, is_decimal_id, fields_of, entry_of};
@@ -7,7 +7,7 @@ ghost use Rattle.pv_accounts.specs.Entries.{is_passwd, is_group, is_shadow, is_g
 ghost use Rattle.pv_accounts.specs.EntryFields.{passwd_fields, group_fields, shadow_fields};
 
 use crate::cutting::{cut, uncut};
-use pv_acl::number;
+use pv_acl::decimal_id;
 
 /// An entry of /etc/passwd (passwd(5)), each field a slice of the file.
 #[derive(Clone, Copy)]
@@ -93,8 +93,8 @@ pub(crate) fn group_entry(line: &[u8]) -> Option<GroupEntry<'_>>
     }
 }
 
-/// The name and the three fields after it of the entry of /etc/gshadow that a line is, if it is one: the
-/// encrypted password, the administrators and the members of a group.
+/// The fields of a line of /etc/gshadow, if the line is an entry (gshadow(5)). They are the name, the encrypted
+/// password, the administrators and the members of a group.
 pub fn gshadow_parts(line: &[u8]) -> Option<(&[u8], &[u8], &[u8], &[u8])>
     ensures { let fields = option_map (λ f. f.0.now ∷ f.1.now ∷ f.2.now ∷ f.3.now ∷ []) result in
         fields ≡ entry_of is_gshadow line.now }
@@ -130,8 +130,8 @@ fn three_fields(line: &[u8]) -> Option<(&[u8], &[u8], &[u8], &[u8])>
     Some((name, password, third, rest))
 }
 
-/// The fields of a line that has four: an entry of /etc/group or /etc/gshadow, or the end of a longer one, behind three
-/// fields of /etc/passwd or five of /etc/shadow.
+/// The fields of a line that has four. Such a line is an entry of /etc/group or /etc/gshadow. It may also be the end of
+/// a longer entry, after three fields of /etc/passwd or five of /etc/shadow.
 fn four_fields(line: &[u8]) -> Option<(&[u8], &[u8], &[u8], &[u8])>
     ensures { MatchOption result
         ((is_group (fields_of line.now) ≡ false) × (is_gshadow (fields_of line.now) ≡ false)
@@ -201,15 +201,4 @@ fn is_decimal_id(text: &[u8]) -> bool
     ensures { result ≡ is_decimal_id text.now }
 {
     decimal_id(text).is_some()
-}
-
-/// The decimal ID that a text writes, 0 to 4294967294 without leading zeros.
-pub(crate) fn decimal_id(text: &[u8]) -> Option<u32>
-    ensures value { result ≡ decimal_id text.now }
-    ensures small { IfSome result (λ id. id ≤ 4294967294) }
-{
-    match number(text) {
-        Some(n) if n <= 4294967294 => Some(n as u32),
-        _ => None,
-    }
 }

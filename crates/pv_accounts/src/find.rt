@@ -1,5 +1,5 @@
 //! Entries by name and by ID; the first of a name counts.
-ghost use Rattle.std.specs.Prelude.{◌≡◌, ◌≤◌, length, option_and_then, IfSome};
+ghost use Rattle.std.specs.Prelude.{◌≡◌, ◌≤◌, option_and_then, IfSome};
 ghost use Rattle.std.specs.List.{find, position_or_len};
 ghost use Rattle.std.specs.Option.{option_map};
 ghost use Rattle.pv_accounts.specs.Entries.{entry_of};
@@ -8,7 +8,8 @@ ghost use Rattle.pv_accounts.specs.InUse.{named_in};
 ghost use Rattle.pv_accounts.specs.Kinds.{test_of, is_entry_named, only_if, chosen_at};
 
 use crate::cutting::cut;
-use crate::entry::{decimal_id, group_entry, gshadow_parts, passwd_entry, shadow_entry};
+use crate::entry::{group_entry, gshadow_parts, passwd_entry, shadow_entry};
+use pv_acl::decimal_id;
 
 /// Which account file it is.
 #[derive(Clone, Copy)]

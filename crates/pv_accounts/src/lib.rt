@@ -1,5 +1,6 @@
 //! The account files /etc/passwd, /etc/group, /etc/shadow and /etc/gshadow (passwd(5), group(5), shadow(5),
-//! gshadow(5)): their entries as slices of the file, the holders of IDs, and files with more entries or members.
+//! gshadow(5)). Their entries are slices of the file. The crate tells which names hold an ID, and makes files with more
+//! entries or members.
 #![tactic(auto)]
 
 mod cutting;

@@ -8,8 +8,8 @@ ghost use Rattle.pv_gshadow.specs.GroupPasswords.{new_group};
 use pv_accounts::{Kind, add_member_in, append_entry};
 use std::alloc::{AllocError, Global};
 
-/// A text of /etc/gshadow with an entry `NAME:!*::` more, before the first line that begins with `+`, else at the
-/// end, where a last line without its end gets one first. All other lines stay as they are.
+/// The text of /etc/gshadow with one more entry, `NAME:!*::`. The entry comes before the first line that begins with
+/// `+`, otherwise at the end. There a last line without a line feed first gets one. All other lines stay as they are.
 pub fn add_group(alloc: Global, file: &[u8], name: &[u8]) -> Result<Vec<u8>, AllocError>
     ensures text { let lines = with_entry (new_group name.now) (lines_of file.now) in
         IfOk result (λ text. text.items ≡ text_of lines) }

@@ -2,7 +2,6 @@
 use Rattle.std.proofs.Common.{◌≡◌, ℕ, ◌+◌, ◌<◌, Bool, true, false, ◌||◌, List, [], ◌++◌, take, drop, length, get_or, append_assoc, refl, sym, ap, ◌∙◌, add-one, if◌then◌else◌}
 use Rattle.std.proofs.lemmas.List.{append-nil, take_at}
 use Rattle.std.proofs.Math.Seq.{drop-cons, take-suc}
-use Rattle.std.proofs.Math.Bool.{or-false}
 use Rattle.std.specs.List.{list_any}
 use Rattle.pv_path.specs.Names.{same_bytes}
 use Rattle.pv_path.specs.Paths.{Path}
@@ -21,9 +20,6 @@ followed_assoc a b c = λ i. record {
   missing = or_assoc a.missing b.missing c.missing i;
   messages = append_assoc a.messages b.messages c.messages i;
 }
-
-followed_nothing : (a : Choice) → followed a nothing ≡ a
-followed_nothing a = λ i. record { files = append-nil a.files i; missing = or-false a.missing i; messages = append-nil a.messages i }
 
 -- a part of all choices is made, and the rest is left
 pub record Partly (all rest : Choice) (old : List (List ℕ)) (files : List Path) (missing : Bool) (messages : List (List ℕ)) : Type 0 where
@@ -53,14 +49,6 @@ module _ {all rest : Choice} {old : List (List ℕ)} {files : List Path} {missin
     p.messages_are ∙ ap (λ (x : List (List ℕ)). old ++ x)
         (sym (take_at p.made.messages rest.messages (length p.made.messages) refl) ∙ ap (λ (c : Choice). take (length p.made.messages) c.messages) p.whole),
   )
-
-  pub partly_end : rest ≡ nothing → (files ≡ all.files) × (missing ≡ all.missing) × (messages ≡ old ++ all.messages)
-  partly_end end =
-      let made_all : p.made ≡ all = sym (followed_nothing p.made) ∙ ap (followed p.made) (sym end) ∙ p.whole in (
-        p.files_are ∙ ap (λ (c : Choice). c.files) made_all,
-        p.missing_is ∙ ap (λ (c : Choice). c.missing) made_all,
-        p.messages_are ∙ ap (λ (c : Choice). old ++ c.messages) made_all,
-      )
 
 -- the next name, and the next word
 pub next_name : (files : Files) (folders : List Path) (names : List (List ℕ)) (i : ℕ) (name : List ℕ) → i < length names → name ≡ get_or names i name

@@ -21,7 +21,7 @@ use Rattle.pv_layers.specs.Inputs.{is_within, Has, SameContent, IsPlain, AreInpu
 use Rattle.pv_layers.specs.Choices.{nothing, followed, choice_of, choice_of_names, found_word, choice_of_word, choice_of_next, choice_of_words, chosen}
 use Rattle.pv_text.specs.declared.tool.Tool.{Tool}
 
--- ---- what stands at a path
+-- ---- the object at a path
 
 -- what a kind and a payload are as a configuration file
 abbrev pub judge : Path → Option (Kind × List ℕ) → Found
@@ -161,10 +161,6 @@ module _ (t u : Files) where
   -- what a tool chooses of two trees is the same where they are the same in its folders
   pub chosen-same : (tool : Tool) (words : List (List ℕ)) → SameContent (is_within (folders tool)) t u → AllByRecursion (IsPlain (is_within (folders tool))) words → chosen t tool words ≡ chosen u tool words
   chosen-same tool words same plain = chosen-same_by (is_within (folders tool)) tool (λ path is. is) words same plain
-
--- a word that begins with no slash is plain
-pub plain-no_slash : (input : Path → Bool) (word : List ℕ) → begins_with_slash word ≡ false → IsPlain input word
-plain-no_slash input word b path e = absurd (let no : None ≡ Some path = rw b at e in cc)
 
 -- ---- the chosen files are input
 

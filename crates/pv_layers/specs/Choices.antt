@@ -35,8 +35,8 @@ followed a b = record { files = a.files ++ b.files; missing = a.missing || b.mis
 -- a choice is made: its files come after those chosen before, a missing word stays missing, and what it
 -- says comes after what was said
 abbrev pub IsMade : Choice → Chosen → Chosen → List (List ℕ) → List (List ℕ) → Type 0
-IsMade choice old new new_messages says =
-    (new.files ≡ old.files ++ choice.files) × (new.missing ≡ (old.missing || choice.missing)) × (says ≡ new_messages ++ choice.messages)
+IsMade choice old new old_messages new_messages =
+    (new.files ≡ old.files ++ choice.files) × (new.missing ≡ (old.missing || choice.missing)) × (new_messages ≡ old_messages ++ choice.messages)
 
 -- ---- without words
 
@@ -53,7 +53,7 @@ choice_of_names files places (name ∷ names) = followed (choice_of (found_in fi
 
 -- ---- with words
 
--- what a word stands for: a path where it begins with a slash, else a name in the folders
+-- what a word stands for: a path where it begins with a slash, otherwise a name in the folders
 abbrev pub found_word : Files → List Path → List ℕ → Found
 found_word files places word =
     if begins_with_slash word then by_path (result_ok (path_of word))

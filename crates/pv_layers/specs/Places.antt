@@ -5,6 +5,10 @@ use Rattle.pv_text.specs.declared.tool.Tool.TheVariants.{Tmpfiles}
 use Rattle.pv_layers.specs.Folders.{folders}
 use Rattle.pv_layers.specs.Inputs.{is_within}
 
+-- the directory of what is set on this system
+abbrev pub etc : Path
+etc = codes "etc" ∷ []
+
 -- the files of users and groups
 abbrev pub passwd_path : Path
 passwd_path = codes "etc" ∷ codes "passwd" ∷ []

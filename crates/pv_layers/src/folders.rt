@@ -2,7 +2,7 @@
 ghost use Rattle.std.specs.Prelude.{◌≡◌, ℕ, true, List, [], ◌∷◌, ◌++◌, filter, map, IfOk, OnOk};
 ghost use Rattle.std.specs.List.{AllPass, fold, flat_map};
 ghost use Rattle.pv_path.specs.Names.{is_name};
-ghost use Rattle.pv_layers.specs.Places.{inputs};
+ghost use Rattle.pv_layers.specs.Places.{etc, inputs};
 ghost use Rattle.pv_layers.specs.Folders.{last_folder, folders, is_conf, conf_names_in, with_name, conf_names};
 
 use pv_path::{Name, PathList, TreePath};
@@ -32,6 +32,13 @@ fn path_of(alloc: Global, names: &[&[u8]]) -> Result<TreePath, AllocError>
         path.push(Name::of(alloc, name)?)?;
     }
     Ok(path)
+}
+
+/// The path of `/etc`.
+pub fn etc_path(alloc: Global) -> Result<TreePath, AllocError>
+    ensures { IfOk result (λ path. path ≡ etc) }
+{
+    path_of(alloc, &[b"etc"])
 }
 
 /// Adds the path of some names to a list.

@@ -20,7 +20,7 @@ pub(crate) enum Found {
     Regular(TreePath),
 }
 
-/// What stands at a path.
+/// The object at a path.
 pub(crate) fn found_at<T: Tree>(tree: &T, path: TreePath) -> Found
     ensures { result ≡ found_at (T.state tree.now) path }
 {

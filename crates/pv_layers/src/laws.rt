@@ -7,8 +7,8 @@ ghost use Rattle.pv_layers.specs.Choices.{chosen};
 ghost use Rattle.pv_layers.specs.Folders.{folders};
 ghost use Rattle.pv_layers.specs.Inputs.{is_within, AreInput, IsPlain, SameContent};
 
-/// What a tool chooses is the same of trees with the same presence, kinds and payloads in its
-/// folders, where each word that begins with a slash spells a path there or none.
+/// What a tool chooses is the same for two trees with the same presence, kinds and payloads in its folders. The premise
+/// is that each word that begins with a slash is a path there, or not a path.
 pub fn the_choice_depends_on_the_folders()
     ensures { (t u : Files) (tool : ToolValue) (words : List (List ℕ)) → SameContent (is_within (folders tool)) t u
         → AllByRecursion (IsPlain (is_within (folders tool))) words → chosen t tool words ≡ chosen u tool words }

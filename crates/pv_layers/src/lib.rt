@@ -8,5 +8,5 @@ mod laws;
 mod words;
 
 pub use chosen::{Chosen, chosen_files};
-pub use folders::inputs;
+pub use folders::{etc_path, inputs};
 pub use laws::{the_choice_depends_on_the_folders, the_chosen_stand_in_the_folders};

@@ -20,7 +20,7 @@ fn read_path(alloc: Global, text: &[u8]) -> Result<Option<TreePath>, AllocError>
     }
 }
 
-/// What a word stands for: a path where it begins with a slash, else a name in the folders.
+/// What a word stands for: a path where it begins with a slash, otherwise a name in the folders.
 pub(crate) fn found_word<T: Tree>(
     alloc: Global,
     tree: &T,

@@ -1,5 +1,5 @@
 -- Sets of letters, one letter after another, and attributes, one word after another.
-use Rattle.std.specs.Prelude.{◌≡◌, ℕ, ◌+◌, ◌^◌, ◌<◌, ◌≤◌, ◌==◌, List, [], ◌∷◌, length, position, Option, Some, None, option_map, option_and_then, refl}
+use Rattle.std.specs.Prelude.{◌≡◌, ℕ, ◌+◌, ◌^◌, ◌<◌, ◌≤◌, ◌==◌, List, [], ◌∷◌, length, position, Option, Some, None, option_map, refl}
 use Rattle.std.specs.Int.Bits.{or_zero_r}
 use Rattle.std.specs.Int.RustNames.{bit_or}
 use Rattle.std.proofs.Common.{arith, sym, ap, subst, ◌∙◌, drop, get_or, add-one}
@@ -10,9 +10,7 @@ use Rattle.std.proofs.lemmas.List.Quantifiers.{position-Some}
 use Rattle.std.proofs.lemmas.Nat.{or_lt}
 use Rattle.std.proofs.lemmas.Nat.Bits.{bit_at_or, same_from_bits}
 use Rattle.pv_steps.specs.Letters.{all_letters, letter_bit}
-use Rattle.pv_steps.specs.Attributes.{put_attr}
-use Rattle.pv_steps.specs.declared.attr.Attr.{Attr}
-use Rattle.pv_lines.specs.ArgumentField.{attr_in, attrs_in, set_of}
+use Rattle.pv_lines.specs.ArgumentField.{set_of}
 
 or_assoc : (a b c : ℕ) → bit_or (bit_or a b) c ≡ bit_or a (bit_or b c)
 or_assoc a b c = same_from_bits _ _ (λ i. omega (arith, bit_at_or (bit_or a b) c i, bit_at_or a b i, bit_at_or a (bit_or b c) i, bit_at_or b c i))
@@ -64,12 +62,3 @@ set_of-lt (letter ∷ letters) set e = by_parts (letter_bit letter) refl (set_of
         subst (λ (n : ℕ). n < 2 ^ 15) same (or_lt 15 bit rest (letter_bit-lt letter bit b) (below rest r))
     by_parts (Some bit) b None r made below = absurd (let no : None ≡ Some set = rw (b, r) at made in cc)
     by_parts None b rest r made below = absurd (let no : None ≡ Some set = rw b at made in cc)
-
--- ---- attributes
-
--- one word more
-pub attrs_next : (words : List (List ℕ)) (i : ℕ) (word : List ℕ) (attr : Attr) (attrs : List Attr) (all : Option (List Attr)) → i < length words → word ≡ get_or words i word → attr_in word ≡ Some attr
-    → attrs_in (drop i words) attrs ≡ all → attrs_in (drop (i + 1) words) (put_attr attr attrs) ≡ all
-attrs_next words i word attr attrs all below is read before =
-    let cut : drop i words ≡ word ∷ drop (i + 1) words = (rw (drop-cons words i word below, add-one) refl) ∙ ap (λ (w : List ℕ). w ∷ drop (i + 1) words) (sym is) in
-    sym (ap (λ (ws : List (List ℕ)). attrs_in ws attrs) cut ∙ ap (option_and_then (λ a. attrs_in (drop (i + 1) words) (put_attr a attrs))) read) ∙ before

@@ -17,7 +17,7 @@ use Rattle.pv_lines.specs.declared.line.Line.{Line}
 use Rattle.pv_lines.specs.declared.line.LineId.{LineId}
 use Rattle.pv_lines.specs.declared.types.Row.{Row}
 use Rattle.pv_lines.specs.ArgumentField.{Lookup, argument_of}
-use Rattle.pv_lines.specs.Lines.{AreIds, IsLine, IsLinePath, given, line_of, line_with, text, texts_of}
+use Rattle.pv_lines.specs.Lines.{AreIds, IsLinePath, given, line_of, line_with, text, texts_of}
 use Rattle.pv_lines.specs.ModeField.{line_age_of, mode_of, owner_of, without_colon}
 use Rattle.pv_lines.specs.PathField.{named_of}
 use Rattle.pv_lines.specs.TypeField.{typed_of}
@@ -35,9 +35,6 @@ pub record IsOwned (line : Line) : Type 0 where
   pub mode : IfSome line.mode (λ mode. mode.value ≤ 0o7777)
   pub user : AreIds line.user
   pub group : AreIds line.group
-
-pub line_is_owned : (line : Line) → IsLine line → IsOwned line
-line_is_owned line is = record { row = is.row; path = is.fits.path; mode = is.fits.mode; user = is.fits.user; group = is.fits.group }
 
 written_id-is_id : (text : List ℕ) (id : ℕ) → written_id text ≡ Some id → IsId id
 written_id-is_id text id e = option_and_then_some (λ n. if may_be_written n then Some n else None) (number_of text) id e (λ n _ is. by_test n (may_be_written n) refl is)

@@ -1,5 +1,5 @@
 -- The texts of a line, and what is read of them.
-use Rattle.std.proofs.Common.{◌≡◌, ℕ, zero, suc, List, [], ◌∷◌, ◌++◌, drop, length, map, Some, None, Result, Ok, Err, option_map, refl, sym, ap, ◌∙◌, append-nil}
+use Rattle.std.proofs.Common.{◌≡◌, ℕ, zero, suc, List, [], ◌∷◌, ◌++◌, drop, length, map, Some, None, Result, Ok, option_map, refl, sym, ap, ◌∙◌, append-nil}
 use Rattle.std.specs.Prelude.{slice_get}
 use Rattle.pv_path.specs.Results.{◌>>=◌, in_words}
 use Rattle.pv_text.specs.Escapes.{unescaped}
@@ -31,8 +31,3 @@ line_of-texts facts lookup place line cut texts same is read =
     ap (λ (r : Result (List Span) FieldFault). in_words (λ f. fault.Field f) r >>= (λ spans. Ok (map (λ span. unescaped (text_at line span)) spans)) >>= line_with facts lookup place) is
     ∙ ap (λ (l : List ℕ). line_with facts lookup place (map (λ span. unescaped (text_at l span)) cut.spans)) (sym same)
     ∙ ap (line_with facts lookup place) (sym read)
-
--- a line without fields has their fault
-pub line_of-fault : (facts : Values) (lookup : Lookup) (place : Place) (line : List ℕ) (f : FieldFault) → fields_of line ≡ Err f → line_of facts lookup place line ≡ Err (fault.Field f)
-line_of-fault facts lookup place line f is =
-    ap (λ (r : Result (List Span) FieldFault). in_words (λ g. fault.Field g) r >>= (λ spans. Ok (map (λ span. unescaped (text_at line span)) spans)) >>= line_with facts lookup place) is

@@ -1,4 +1,5 @@
 -- The field Argument, by what the type takes (tmpfiles.d(5), "Argument" and the sections on each type).
+use Prim.Native.Char.{code}
 use Rattle.std.specs.Prelude.{ℕ, ◌+◌, ◌^◌, Bool, true, ◌||◌, ◌==◌, nat_lt, List, [], ◌∷◌, ◌++◌, length, codes, drop, take, position, Option, Some, None, option_map, option_and_then, Result, Ok, Err, if◌then◌else◌}
 use Rattle.std.specs.List.{list_any, flat_map, slice_split}
 use Rattle.std.specs.Int.RustNames.{bit_or}
@@ -38,7 +39,7 @@ bytes_of facts encoded text = if encoded then or_fault fault.BadBase64 (result_o
 
 -- what is taken where a target or a source is omitted: the path below `/usr/share/factory`
 abbrev pub factory : LinePath → List ℕ
-factory (Literal path) = codes "/usr/share/factory" ++ flat_map (λ name. 47 ∷ name) path
+factory (Literal path) = codes "/usr/share/factory" ++ flat_map (λ name. code "/" ∷ name) path
 factory (Glob pattern) = []
 
 -- the text of a target or a source
@@ -70,7 +71,7 @@ device_in (major ∷ minor ∷ []) = by (number_32 major) (number_32 minor)
 device_in parts = None
 
 abbrev pub device_of : List ℕ → Result Argument LineFault
-device_of text = or_fault fault.BadDevice (device_in (slice_split (λ b. b == 58) text))
+device_of text = or_fault fault.BadDevice (device_in (slice_split (λ b. b == code ":") text))
 
 -- ---- extended attributes
 
@@ -90,10 +91,10 @@ with_word word words = option_map (λ words. begun_words word ++ words) words
 
 -- what stands between words
 abbrev pub is_space : ℕ → Bool
-is_space b = b == 32 || b == 9
+is_space b = b == code " " || b == code "\t"
 
 -- the words of a text between spaces and tabs, where a word may have begun, and a quote may be open in it; a part
--- between two quotes of one kind may hold spaces and tabs, and the quotes are dropped; nothing where a quote stays open
+-- between two quotes of one kind may hold spaces and tabs, and the quotes are dropped; nothing if a quote stays open
 abbrev pub words_from : Option ℕ → Option (List ℕ) → List ℕ → Option (List (List ℕ))
 words_from None word [] = with_word word (Some [])
 words_from (Some quote) word [] = None
@@ -107,7 +108,7 @@ words_from None word (b ∷ text) =
 
 -- `NAME=VALUE`, cut at the first `=`
 abbrev pub attr_in : List ℕ → Option Attr
-attr_in word = option_and_then (λ at. if is_attr (take at word) (drop (at + 1) word) then Some (record { name = take at word; value = drop (at + 1) word }) else None) (position (λ b. b == 61) word)
+attr_in word = option_and_then (λ at. if is_attr (take at word) (drop (at + 1) word) then Some (record { name = take at word; value = drop (at + 1) word }) else None) (position (λ b. b == code "=") word)
 
 -- of two words with one name the later counts
 abbrev pub attrs_in : List (List ℕ) → List Attr → Option (List Attr)
@@ -125,9 +126,9 @@ attrs_of text =
 abbrev pub sign_of : List ℕ → LetterHow × List ℕ
 sign_of [] = (Add, [])
 sign_of (b ∷ text) =
-    if b == 43 then (Add, text)
-    else if b == 45 then (Take, text)
-    else if b == 61 then (Put, text)
+    if b == code "+" then (Add, text)
+    else if b == code "-" then (Take, text)
+    else if b == code "=" then (Put, text)
     else (Add, b ∷ text)
 
 -- the set of some letters

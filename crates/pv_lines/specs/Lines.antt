@@ -106,11 +106,11 @@ IsArgument wanted.Letters (argument.Letters how letters) = letters < 2 ^ 15
 IsArgument wanted.Nothing argument.Ignored = Unit {0}
 IsArgument _ _ = ⊥
 
--- a modifier stands only where the type takes it
+-- a modifier stands only if the type takes it
 abbrev pub Takes : Bool → Bool → Type 0
 Takes takes stands = stands ≡ true → takes ≡ true
 
--- an owner, where one is given, is an ID
+-- an owner, if one is given, is an ID
 abbrev pub AreIds : Option LineId → Type 0
 AreIds owner = IfSome owner (λ owner. IsId owner.id)
 

@@ -1,4 +1,5 @@
 -- The fields Mode, User, Group and Age (tmpfiles.d(5), "Mode", "User, Group" and "Age").
+use Prim.Native.Char.{code}
 use Rattle.std.specs.Prelude.{ℕ, Bool, true, false, not, ◌&&◌, ◌==◌, nat_le, List, [], ◌∷◌, length, Option, Some, None, option_map, Result, Ok, if◌then◌else◌}
 use Rattle.std.specs.Char.{is_digit}
 use Rattle.std.specs.List.{list_all}
@@ -13,7 +14,7 @@ use Rattle.pv_lines.specs.declared.line.LineId.{LineId}
 use Rattle.pv_lines.specs.declared.line.LineMode.{LineMode}
 use Rattle.pv_lines.specs.declared.types.Row.{Row}
 
--- what a field gives where it is not omitted
+-- what a field gives if it is not omitted
 abbrev pub where_given : {A : Type 0} → (List ℕ → Result A LineFault) → Option (List ℕ) → Result (Option A) LineFault
 where_given read None = Ok None
 where_given read (Some text) = read text >>= (λ x. Ok (Some x))
@@ -30,8 +31,8 @@ is_mode_text text =
 abbrev pub mode_after : Bool → Bool → List ℕ → Option LineMode
 mode_after masked new_only [] = None
 mode_after masked new_only (b ∷ text) =
-    if b == 126 && not masked then mode_after true new_only text
-    else if b == 58 && not new_only then mode_after masked true text
+    if b == code "~" && not masked then mode_after true new_only text
+    else if b == code ":" && not new_only then mode_after masked true text
     else if is_mode_text (b ∷ text) then Some (record { value = digits_value 8 (b ∷ text); masked = masked; new_only = new_only })
     else None
 
@@ -43,7 +44,7 @@ mode_of field = where_given (λ text. or_fault fault.BadMode (mode_after false f
 -- what stands behind the prefix `:`, and whether that stands there
 abbrev pub without_colon : List ℕ → List ℕ × Bool
 without_colon [] = ([], false)
-without_colon (b ∷ text) = if b == 58 then (text, true) else (b ∷ text, false)
+without_colon (b ∷ text) = if b == code ":" then (text, true) else (b ∷ text, false)
 
 -- an ID, or a name that is looked up, which may stand behind the prefix `:`
 abbrev pub owner_in : (List ℕ → Option ℕ) → List ℕ → Option LineId

@@ -1,4 +1,5 @@
 -- The field Type: a letter, and then modifiers, each at most once (tmpfiles.d(5), "Type").
+use Prim.Native.Char.{code}
 use Rattle.std.specs.Prelude.{ℕ, Bool, true, not, ◌&&◌, ◌||◌, ◌==◌, List, [], ◌∷◌, Result, Ok, Err, if◌then◌else◌}
 use Rattle.std.specs.List.{list_any, list_all}
 use Rattle.pv_path.specs.Results.{◌>>=◌, or_fault}
@@ -10,22 +11,22 @@ use Rattle.pv_lines.specs.Types.{type_of}
 
 -- the modifiers `+ ! - = ~ $`
 abbrev pub plus : ℕ
-plus = 43
+plus = code "+"
 
 abbrev pub boot : ℕ
-boot = 33
+boot = code "!"
 
 abbrev pub minus : ℕ
-minus = 45
+minus = code "-"
 
 abbrev pub replace : ℕ
-replace = 61
+replace = code "="
 
 abbrev pub encoded : ℕ
-encoded = 126
+encoded = code "~"
 
 abbrev pub purge : ℕ
-purge = 36
+purge = code "$"
 
 -- whether a type takes a modifier
 abbrev pub takes : Row → ℕ → Bool

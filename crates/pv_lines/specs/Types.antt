@@ -1,10 +1,11 @@
 -- The table of types: what each letter takes (tmpfiles.d(5), "Type" and the sections on each type).
+use Prim.Native.Char.{code}
 use Rattle.std.specs.Prelude.{ℕ, true, false, ◌==◌, List, [], ◌∷◌, find, Option, option_map}
 use Rattle.pv_lines.specs.declared.types.Row.{Row}
 use Rattle.pv_lines.specs.declared.types.Wanted.{Wanted}
 use Rattle.pv_lines.specs.declared.types.Wanted.TheVariants.{Content, Bytes, Target, Source, Device, Entries, Attrs, Letters, Nothing}
 
--- a type that makes what stands at its path, and one that adjusts or takes away what its pattern matches; neither takes
+-- a type that makes the object at its path, and one that adjusts or takes away what its pattern matches; neither takes
 -- the root, an age or an argument
 abbrev pub creating : ℕ → Row
 creating letter = record {
@@ -43,32 +44,32 @@ wanting argument row = record row { wanted = argument }
 -- F is kept as f with `+`
 abbrev pub types : List (ℕ × Row)
 types =
-    (102, with_plus (with_encoded (wanting Content (creating 102))))
-    ∷ (70, record (with_encoded (wanting Content (creating 102))) { always_plus = true })
-    ∷ (100, with_root (with_age (creating 100)))
-    ∷ (68, with_root (with_age (creating 68)))
-    ∷ (118, with_root (with_age (creating 118)))
-    ∷ (113, with_root (with_age (creating 113)))
-    ∷ (81, with_root (with_age (creating 81)))
-    ∷ (112, with_plus (creating 112))
-    ∷ (76, with_plus (wanting Target (creating 76)))
-    ∷ (99, with_plus (wanting Device (creating 99)))
-    ∷ (98, with_plus (wanting Device (creating 98)))
-    ∷ (67, with_age (wanting Source (creating 67)))
-    ∷ (119, with_plus (with_encoded (wanting Bytes (matching 119))))
-    ∷ (101, with_root (with_age (matching 101)))
-    ∷ (122, with_root (matching 122))
-    ∷ (90, with_root (matching 90))
-    ∷ (97, with_root (with_plus (wanting Entries (matching 97))))
-    ∷ (65, with_root (with_plus (wanting Entries (matching 65))))
-    ∷ (116, with_root (wanting Attrs (matching 116)))
-    ∷ (84, with_root (wanting Attrs (matching 84)))
-    ∷ (104, with_root (wanting Letters (matching 104)))
-    ∷ (72, with_root (wanting Letters (matching 72)))
-    ∷ (114, matching 114)
-    ∷ (82, matching 82)
-    ∷ (120, with_root (with_age (matching 120)))
-    ∷ (88, with_root (with_age (matching 88)))
+    (code "f", with_plus (with_encoded (wanting Content (creating (code "f")))))
+    ∷ (code "F", record (with_encoded (wanting Content (creating (code "f")))) { always_plus = true })
+    ∷ (code "d", with_root (with_age (creating (code "d"))))
+    ∷ (code "D", with_root (with_age (creating (code "D"))))
+    ∷ (code "v", with_root (with_age (creating (code "v"))))
+    ∷ (code "q", with_root (with_age (creating (code "q"))))
+    ∷ (code "Q", with_root (with_age (creating (code "Q"))))
+    ∷ (code "p", with_plus (creating (code "p")))
+    ∷ (code "L", with_plus (wanting Target (creating (code "L"))))
+    ∷ (code "c", with_plus (wanting Device (creating (code "c"))))
+    ∷ (code "b", with_plus (wanting Device (creating (code "b"))))
+    ∷ (code "C", with_age (wanting Source (creating (code "C"))))
+    ∷ (code "w", with_plus (with_encoded (wanting Bytes (matching (code "w")))))
+    ∷ (code "e", with_root (with_age (matching (code "e"))))
+    ∷ (code "z", with_root (matching (code "z")))
+    ∷ (code "Z", with_root (matching (code "Z")))
+    ∷ (code "a", with_root (with_plus (wanting Entries (matching (code "a")))))
+    ∷ (code "A", with_root (with_plus (wanting Entries (matching (code "A")))))
+    ∷ (code "t", with_root (wanting Attrs (matching (code "t"))))
+    ∷ (code "T", with_root (wanting Attrs (matching (code "T"))))
+    ∷ (code "h", with_root (wanting Letters (matching (code "h"))))
+    ∷ (code "H", with_root (wanting Letters (matching (code "H"))))
+    ∷ (code "r", matching (code "r"))
+    ∷ (code "R", matching (code "R"))
+    ∷ (code "x", with_root (with_age (matching (code "x"))))
+    ∷ (code "X", with_root (with_age (matching (code "X"))))
     ∷ []
 
 -- what the type of a letter takes, if there is one

@@ -142,7 +142,7 @@ fn filled(text: Bytes) -> Result<Bytes, LineFault>
     }
 }
 
-/// The text of an argument that is needed, with its specifiers expanded, where it is not empty then.
+/// The text of an argument that is needed, with its specifiers expanded, if it is not empty then.
 fn filled_argument(alloc: Global, field: Option<&[u8]>, facts: &Facts) -> Result<Bytes, LineFault>
     ensures { Gives result (filled_text facts.now (option_map (λ s. s.now) field.entry)) }
 {

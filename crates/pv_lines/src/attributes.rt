@@ -136,7 +136,7 @@ fn followed(alloc: Global, word: Option<Bytes>, byte: u8) -> Result<Bytes, Alloc
     Ok(word)
 }
 
-/// The words of a text between spaces and tabs, or nothing where a quote stays open. A part between two
+/// The words of a text between spaces and tabs, or nothing if a quote stays open. A part between two
 /// quotes of one kind may hold spaces and tabs, and the quotes are dropped.
 fn words_in(alloc: Global, text: &[u8]) -> Result<Option<Vec<Bytes>>, AllocError>
     ensures { IfOk result (λ words. option_map (λ v. v.items) words ≡ words_from None None text.now) }
@@ -219,7 +219,7 @@ fn sign_of(text: &[u8]) -> (LetterHow, &[u8])
     }
 }
 
-/// The set of some letters, or nothing where a byte is no letter.
+/// The set of some letters, or nothing if a byte is no letter.
 fn set_of(letters: &[u8]) -> Option<LetterSet>
     ensures value { result ≡ set_of letters.now }
     ensures few { IfSome result (λ set. set < 2 ^ 15) }

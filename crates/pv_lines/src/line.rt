@@ -29,11 +29,11 @@ pub struct Line {
     pub path_text: Bytes,
     /// Whether `/var/run/` was read as `/run/`.
     pub moved: bool,
-    /// The mode, where one is given.
+    /// The mode, if one is given.
     pub mode: Option<LineMode>,
-    /// The owner, where one is given.
+    /// The owner, if one is given.
     pub user: Option<LineId>,
-    /// The owning group, where one is given.
+    /// The owning group, if one is given.
     pub group: Option<LineId>,
     /// The age, where the type uses one and it is given.
     pub age: Option<Age>,

@@ -1,4 +1,4 @@
-//! Why a text is no line.
+//! Why a text is not a line.
 ghost use Rattle.std.specs.Prelude.{◌≡◌};
 ghost use Rattle.pv_lines.specs.declared.line_fault.LineFault.TheVariants.{Memory};
 ghost use Rattle.pv_lines.specs.Faults.{of_acl, of_expansion, of_path, of_pattern};
@@ -11,7 +11,7 @@ use pv_text::{ExpandFault, FieldFault};
 use std::alloc::{AllocError, AllocFailed};
 use thiserror::Error;
 
-/// Why a text is no line. Fields are judged from the left. A fault of running out of memory is always `Memory` itself.
+/// Why a text is not a line. Fields are judged from the left. A fault of running out of memory is always `Memory` itself.
 #[derive(Clone, Copy, Debug, Error)]
 pub enum LineFault {
     /// It has no fields.

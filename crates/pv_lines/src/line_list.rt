@@ -62,7 +62,7 @@ impl LineList {
         self.lines.len()
     }
 
-    /// The line at a place counted from 0, or nothing past the end. It takes no memory.
+    /// The line at an index counted from 0, or nothing past the end. It takes no memory.
     pub fn get(&self, i: usize) -> Option<&Line>
         ensures { option_copied result ≡ slice_get self.now i }
     {

@@ -55,7 +55,7 @@ fn text(texts: &[Bytes], i: usize) -> &[u8]
     }
 }
 
-/// The text of a field, or nothing where it is omitted.
+/// The text of a field, or nothing if it is omitted.
 fn given(texts: &[Bytes], i: usize) -> Option<&[u8]>
     ensures { option_map (λ s. s.now) result ≡ given texts.now i }
 {
@@ -126,6 +126,11 @@ fn line_with<N: Names>(
 
 /// The line that a text spells at a place, or its first fault, field by field from the left in the order of
 /// `LineFault` (tmpfiles.d(5)).
+///
+/// ```text
+/// let place = Place { file: OneLine::copy_of(alloc, b"app.conf")?, number: 1 };
+/// let line = read_line(alloc, b"d /run/app 0750 7 8 10d", place, &Facts::new(alloc), &names)?;
+/// ```
 pub fn read_line<N: Names>(
     alloc: Global,
     line: &[u8],

@@ -21,7 +21,7 @@ pub(crate) enum Wanted {
     Attrs,
     /// Letters.
     Letters,
-    /// None: what stands there is ignored.
+    /// None: the object there is ignored.
     Nothing,
 }
 
@@ -38,7 +38,7 @@ pub(crate) struct Row {
     pub replace: bool,
     /// Whether it takes `~`.
     pub encoded: bool,
-    /// Whether it takes `$`, as exactly the types do that make what stands at their path.
+    /// Whether it takes `$`. Exactly the types that make an object at their path do.
     pub creates: bool,
     /// Whether the root is allowed.
     pub root: bool,
@@ -49,7 +49,7 @@ pub(crate) struct Row {
 }
 
 impl Row {
-    /// A type that makes what stands at its path; it takes neither the root, an age nor an argument.
+    /// A type that makes an object at its path. It takes neither the root, an age nor an argument.
     fn creating(letter: u8) -> Row
         ensures { result ≡ creating letter }
     {
@@ -121,10 +121,12 @@ impl Row {
     }
 
     /// A type that makes a file with a content.
-    fn file() -> Row
-        ensures { result ≡ with_encoded (wanting Wanted.Content (creating 102)) }
+    fn file(letter: u8) -> Row
+        ensures { result ≡ with_encoded (wanting Wanted.Content (creating letter)) }
     {
-        Row::creating(b'f').wanting(Wanted::Content).with_encoded()
+        Row::creating(letter)
+            .wanting(Wanted::Content)
+            .with_encoded()
     }
 
     /// A type that gives ACL entries to what its pattern matches.
@@ -138,13 +140,13 @@ impl Row {
     }
 }
 
-/// What the type of a letter takes, or nothing where there is no such type (tmpfiles.d(5)).
+/// What the type of a letter takes, or nothing if there is no such type (tmpfiles.d(5)).
 pub(crate) fn type_of(letter: u8) -> Option<Row>
     ensures { result ≡ type_of letter }
 {
     Some(match letter {
-        b'f' => Row::file().with_plus(),
-        b'F' => Row::file().kept_with_plus(),
+        b'f' => Row::file(b'f').with_plus(),
+        b'F' => Row::file(b'f').kept_with_plus(),
         b'd' => Row::creating(b'd').with_age().with_root(),
         b'D' => Row::creating(b'D').with_age().with_root(),
         b'v' => Row::creating(b'v').with_age().with_root(),

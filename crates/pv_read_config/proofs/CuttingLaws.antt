@@ -29,7 +29,7 @@ lines_in-first (b ∷ c ∷ text) some = by_test (b == 10) refl (lines_in-first 
 pub lines_in-cut : (text : List ℕ) (end : ℕ) → 0 < length text → end ≡ end_of text → lines_in text ≡ take end text ∷ lines_in (take (length text - (end + 1)) (drop (end + 1) text))
 lines_in-cut text end some is = rw (take_rest, is) (lines_in-first text some)
 
--- where it is the last one
+-- if it is the last one
 pub lines_in-last : (text : List ℕ) (end : ℕ) → 0 < length text → end ≡ end_of text → end ≡ length text → lines_in text ≡ text ∷ []
 lines_in-last text end some is last =
     let all : end_of text ≡ length text = sym is ∙ last in

@@ -1,16 +1,7 @@
 -- What each line of a configuration is that the definition reads.
-use Rattle.std.specs.Prelude.{◌≡◌, ◌≢◌, ℕ, ◌+◌, Bool, true, false, List, [], ◌∷◌, ◌++◌, Option, Some, None, option_and_then, IfSome, Result, Ok, Err, if◌then◌else◌, refl}
-use Rattle.std.specs.List.{AllByRecursion}
+use Rattle.std.specs.Prelude.{◌≡◌, ◌≢◌, ℕ, ◌+◌, List, [], ◌∷◌, ◌++◌, Some, None, Result, Ok, Err, refl}
 use Rattle.std.specs.Result.{result_ok}
-use Rattle.std.proofs.Common.{arith, ap, sym, ◌∙◌}
-use Rattle.std.proofs.lemmas.Bool.Decides.{nat_tests}
-use Rattle.pv_acl.specs.NamedEntries.{is_id}
-use Rattle.pv_acl.specs.Numbers.{number_of}
-use Rattle.pv_acl.specs.Spelling.{decimal_id}
-use Rattle.pv_accounts.specs.Entries.{is_group, is_passwd}
-use Rattle.pv_accounts.specs.Files.{entry_named, id_in, id_named, id_or_root, is_root}
-use Rattle.pv_layers.specs.Choices.{chosen}
-use Rattle.pv_lines.proofs.LineLaws.{AreSmall, IsOwned, line_of-owned}
+use Rattle.std.proofs.Common.{ap, sym, ◌∙◌}
 use Rattle.pv_lines.specs.ArgumentField.{Lookup}
 use Rattle.pv_lines.specs.FaultNames.{name_of}
 use Rattle.pv_lines.specs.Lines.{line_of}
@@ -18,17 +9,13 @@ use Rattle.pv_lines.specs.Faults.{Gives}
 use Rattle.pv_lines.specs.declared.line_fault.LineFault.{LineFault}
 use Rattle.pv_lines.specs.declared.line_fault.LineFault.TheVariants as fault
 use Rattle.pv_lines.specs.declared.line.Line.{Line}
-use Rattle.pv_path.specs.Paths.{Path}
-use Rattle.pv_path.specs.Printing.{printed_path}
-use Rattle.pv_steps.specs.Objects.{IsId}
 use Rattle.pv_steps.specs.Trees.{Files}
 use Rattle.pv_text.specs.Facts.{Values}
 use Rattle.pv_text.specs.GivenMessages.{message_text_at}
 use Rattle.pv_text.specs.declared.place.Place.{Place}
 use Rattle.pv_text.specs.declared.tool.Tool.TheVariants.{Tmpfiles}
-use Rattle.pv_read_config.specs.Configuration.{configured_by, content_at, is_skipped, lines_in, reading_by, reading_of, reading_of_file, reading_of_files, reading_of_lines}
-use Rattle.pv_read_config.specs.Known.{Known, configured, known_of, lookup_in, moved_message, messages_by, tmpfiles_reader}
-use Rattle.std.specs.Option.{option_to_list}
+use Rattle.pv_read_config.specs.Configuration.{configured_by, content_at}
+use Rattle.pv_read_config.specs.Known.{configured, lookup_in, moved_message, messages_by, tmpfiles_reader}
 use Rattle.pv_layers.specs.Places.{group_path, passwd_path}
 
 -- ---- one line
@@ -61,74 +48,3 @@ pub configured_same : (files : Files) (facts : Values) (passwd group : List ℕ)
 configured_same files facts passwd group words users groups =
     ap (λ (p : List ℕ). configured_by files (tmpfiles_reader (record { facts = facts; lookup = lookup_in p group })) Tmpfiles words) users
     ∙ ap (λ (g : List ℕ). configured_by files (tmpfiles_reader (record { facts = facts; lookup = lookup_in (content_at files passwd_path) g })) Tmpfiles words) groups
-
--- ---- IDs of account files
-
-decimal_id-is_id : (text : List ℕ) → IfSome (decimal_id text) IsId
-decimal_id-is_id text = by_number (number_of text)
-  where
-    by_test : (n : ℕ) (is : Bool) → is_id n ≡ is → IfSome (if is then Some n else None) IsId
-    by_test n true is = grind (arith, nat_tests, is)
-    by_test n false is = tt
-
-    by_number : (n : Option ℕ) → IfSome (option_and_then (λ m. if is_id m then Some m else None) n) IsId
-    by_number (Some n) = by_test n (is_id n) refl
-    by_number None = tt
-
-id_in-is_id : (entry : List (List ℕ)) → IfSome (id_in entry) IsId
-id_in-is_id (name ∷ password ∷ id ∷ fields) = decimal_id-is_id id
-id_in-is_id [] = tt
-id_in-is_id (name ∷ []) = tt
-id_in-is_id (name ∷ password ∷ []) = tt
-
-id_or_root-is_id : (test : List (List ℕ) → Bool) (file name : List ℕ) → IfSome (id_or_root test file name) IsId
-id_or_root-is_id test file name = by_root (is_root name)
-  where
-    by_entry : (entry : Option (List (List ℕ))) → IfSome (option_and_then id_in entry) IsId
-    by_entry (Some entry) = id_in-is_id entry
-    by_entry None = tt
-
-    by_root : (root : Bool) → IfSome (if root then Some 0 else id_named test file name) IsId
-    by_root true = omega arith
-    by_root false = by_entry (entry_named test file name)
-
-lookup_in-small : (passwd group : List ℕ) → AreSmall (lookup_in passwd group)
-lookup_in-small passwd group = record { uids = id_or_root-is_id is_passwd passwd; gids = id_or_root-is_id is_group group }
-
--- ---- lines
-
-abbrev pub AreOwned : List Line → Type 0
-AreOwned lines = AllByRecursion IsOwned lines
-
-are_owned-append : (a b : List Line) → AreOwned a → AreOwned b → AreOwned (a ++ b)
-are_owned-append [] b first second = second
-are_owned-append (line ∷ a) b first second = (first.0, are_owned-append a b first.1 second)
-
-module _ (known : Known) (small : AreSmall known.lookup) where
-  reading_of-owned : (place : Place) (text : List ℕ) → AreOwned (reading_of (tmpfiles_reader known) place text).lines
-  reading_of-owned place text = by_test (is_skipped text)
-    where
-      by_read : (read : Result Line LineFault) → line_of known.facts known.lookup place text ≡ read → AreOwned (option_to_list (result_ok read))
-      by_read (Ok line) is = (line_of-owned known.facts known.lookup place text line small is, tt)
-      by_read (Err f) is = tt
-
-      by_test : (skipped : Bool) → AreOwned (if skipped then record { lines = []; invalid = false; messages = []; count = 1 } else reading_by ((tmpfiles_reader known).line_read place text) ((tmpfiles_reader known).messages_for place text)).lines
-      by_test true = tt
-      by_test false = by_read (line_of known.facts known.lookup place text) refl
-
-  reading_of_lines-owned : (file : List ℕ) (number : ℕ) (texts : List (List ℕ)) → AreOwned (reading_of_lines (tmpfiles_reader known) file number texts).lines
-  reading_of_lines-owned file number [] = tt
-  reading_of_lines-owned file number (text ∷ texts) =
-      are_owned-append (reading_of (tmpfiles_reader known) (record { file = file; number = number }) text).lines (reading_of_lines (tmpfiles_reader known) file (number + 1) texts).lines
-      (reading_of-owned (record { file = file; number = number }) text) (reading_of_lines-owned file (number + 1) texts)
-
-  reading_of_files-owned : (files : Files) (paths : List Path) → AreOwned (reading_of_files files (tmpfiles_reader known) paths).lines
-  reading_of_files-owned files [] = tt
-  reading_of_files-owned files (path ∷ paths) =
-      are_owned-append (reading_of_file files (tmpfiles_reader known) path).lines (reading_of_files files (tmpfiles_reader known) paths).lines
-      (reading_of_lines-owned (printed_path path) 1 (lines_in (content_at files path))) (reading_of_files-owned files paths)
-
--- each line of a configuration is one
-pub configured-owned : (files : Files) (facts : Values) (words : List (List ℕ)) → AreOwned (configured files facts words).lines
-configured-owned files facts words =
-    reading_of_files-owned (known_of files facts) (lookup_in-small (content_at files passwd_path) (content_at files group_path)) files (chosen files Tmpfiles words).files

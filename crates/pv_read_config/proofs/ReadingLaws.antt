@@ -19,11 +19,6 @@ followed_assoc a b c = λ i. record {
   count = add_assoc a.count b.count c.count i;
 }
 
-followed_nothing : {L : Type 0} (a : Reading L) → followed a nothing ≡ a
-followed_nothing a =
-    let none : a.count + 0 ≡ a.count = omega arith in
-    λ i. record { lines = append-nil a.lines i; invalid = or-false a.invalid i; messages = append-nil a.messages i; count = none i }
-
 nothing_followed : {L : Type 0} (a : Reading L) → followed nothing a ≡ a
 nothing_followed a =
     let none : 0 + a.count ≡ a.count = omega arith in
@@ -62,11 +57,6 @@ module _ {L : Type 0} {all rest : Reading L} {old new : Configuration L} {new_me
     adds = adds_both u.adds adds;
     whole = followed_assoc u.done one next ∙ ap (followed u.done) (sym is) ∙ u.whole;
   }
-
-  pub underway_end : rest ≡ nothing → Adds all old new new_messages stated
-  underway_end end =
-      let is : u.done ≡ all = sym (followed_nothing u.done) ∙ ap (followed u.done) (sym end) ∙ u.whole in
-      rw is at u.adds
 
   pub underway_messages : MessagesPart all.messages new_messages stated
   underway_messages =

@@ -1,7 +1,7 @@
 -- What each line of systemd-sysusers is read as.
-use Rattle.std.specs.Prelude.{◌≡◌, ◌≢◌, ℕ, List, [], ◌∷◌, ◌++◌, Some, None, Result, Ok, Err, refl}
+use Rattle.std.specs.Prelude.{◌≡◌, ◌≢◌, ℕ, List, [], ◌∷◌, ◌++◌, None, Result, Err, refl}
 use Rattle.std.specs.Result.{result_ok}
-use Rattle.std.proofs.Common.{append-nil, ap, sym, ◌∙◌}
+use Rattle.std.proofs.Common.{ap, sym, ◌∙◌}
 use Rattle.pv_requests.specs.Faults.{Gives, name_of}
 use Rattle.pv_requests.specs.Requests.{request_of}
 use Rattle.pv_requests.specs.declared.request_fault.RequestFault.{RequestFault}
@@ -20,12 +20,6 @@ fault_given f read given known = given
 module _ (facts : Values) (place copy : Place) (text : List ℕ) (same : copy ≡ place) where
   at_place : (read : Result Request RequestFault) → request_of facts copy text ≡ read → request_of facts place text ≡ read
   at_place read is = ap (λ (p : Place). request_of facts p text) (sym same) ∙ is
-
-  pub request_is_read : (request : Request) → request_of facts copy text ≡ Ok request → Some request ≡ result_ok (request_of facts place text)
-  request_is_read request is = sym (ap result_ok (at_place (Ok request) is))
-
-  pub nothing_is_said : (request : Request) (new_messages : List (List ℕ)) → request_of facts copy text ≡ Ok request → new_messages ≡ new_messages ++ messages_for_request place (request_of facts place text)
-  nothing_is_said request new_messages is = sym (ap (λ (r : Result Request RequestFault). new_messages ++ messages_for_request place r) (at_place (Ok request) is) ∙ append-nil new_messages)
 
   pub fault_is_read : (f : RequestFault) → Gives (Err f) (request_of facts copy text) → f ≢ fault.Memory → None ≡ result_ok (request_of facts place text)
   fault_is_read f given known = sym (ap result_ok (at_place (Err f) (fault_given f (request_of facts copy text) given known)))

@@ -1,4 +1,5 @@
 -- What a run reads as its configuration: the lines of all chosen files (tmpfiles.d(5), sysusers.d(5)).
+use Prim.Native.Char.{code}
 use Rattle.std.specs.Prelude.{ℕ, ◌+◌, Bool, true, false, not, ◌||◌, ◌==◌, List, [], ◌∷◌, ◌++◌, find, Option, Some, None, is_none, if◌then◌else◌}
 use Rattle.std.specs.List.{onto_first}
 use Rattle.std.specs.Option.{option_to_list}
@@ -38,7 +39,7 @@ abbrev pub is_skipped : List ℕ → Bool
 is_skipped line = by (find (λ b. not (is_blank b)) line)
   where
     by : Option ℕ → Bool
-    by (Some b) = b == 35
+    by (Some b) = b == code "#"
     by None = true
 
 -- ---- what is read

@@ -145,9 +145,9 @@ fn add_files<T: Tree, R: LineReader>(
     Ok(())
 }
 
-/// The configuration of a tool in a tree: the lines of the files that the words name, or without words of those that
-/// the folders of the tool hold. What is said of files and words comes before what is said of lines. More than
-/// 4294967295 lines count as running out of memory.
+/// Reads the configuration of a tool in a tree. Its lines are those of the files that the words name. If there are no
+/// words, they are those of the files in the folders of the tool. Messages on files and words come before messages on
+/// lines. More than 4294967295 lines count as running out of memory.
 pub fn read_lines<T: Tree, R: LineReader>(
     alloc: Global,
     tree: &T,

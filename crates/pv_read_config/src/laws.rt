@@ -14,8 +14,8 @@ ghost use Rattle.pv_read_config.specs.Inputs.{is_request_input};
 ghost use Rattle.pv_read_config.specs.Known.{configured};
 ghost use Rattle.pv_read_config.specs.Requested.{requested};
 
-/// The configuration of systemd-tmpfiles is the same of trees with the same presence, kinds and payloads at input
-/// paths, where each word that begins with a slash spells such a path or none.
+/// The configuration of systemd-tmpfiles is the same for two trees with the same presence, kinds and payloads at input
+/// paths. The premise is that each word that begins with a slash is such a path, or not a path.
 pub fn a_configuration_depends_on_input_paths()
     ensures { (t u : Files) (facts : Values) (words : List (List ℕ)) → SameContent is_input t u
         → AllByRecursion (IsPlain is_input) words → configured t facts words ≡ configured u facts words }
@@ -38,8 +38,9 @@ pub fn a_run_outside_leaves_the_configuration()
         → configured (after_all files steps now) facts words ≡ configured files facts words }
 {}
 
-/// The requests of systemd-sysusers are the same of trees with the same presence, kinds and payloads in its folders of
-/// configuration files, where each word that begins with a slash spells a path there or none.
+/// The requests of systemd-sysusers are the same for two trees with the same presence, kinds and payloads in its
+/// folders of configuration files. The premise is that each word that begins with a slash is a path there, or not a
+/// path.
 pub fn requests_depend_on_their_folders()
     ensures { (t u : Files) (facts : Values) (words : List (List ℕ)) → SameContent is_request_input t u
         → AllByRecursion (IsPlain is_request_input) words → requested t facts words ≡ requested u facts words }

@@ -10,7 +10,7 @@ pub trait LineReader {
     /// What a line is read as.
     type Line: Drop;
 
-    /// What a line at a place is read as, or nothing where it is refused.
+    /// What a line at a place is read as, or nothing if it is refused.
     ghost line_read: { Self → PlaceValue → List ℕ → Option Self.Line };
 
     /// What is said of a line at a place.
@@ -19,7 +19,7 @@ pub trait LineReader {
     /// What holds of each line that is read.
     ghost is_whole: { Self → Self.Line → Type 0 };
 
-    /// Reads the line that stands at a place, or nothing where it is refused, and says what there is to be said.
+    /// Reads the line that stands at a place, or nothing if it is refused, and says what there is to be said.
     fn read(
         &self,
         alloc: Global,

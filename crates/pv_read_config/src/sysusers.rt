@@ -71,9 +71,10 @@ fn say_refused(
     }
 }
 
-/// The requests of systemd-sysusers in a tree: the lines of the files that the words name, or without words of those
-/// that its folders hold, read by the facts. What is said of files and words comes before what is said of lines. More
-/// than 4294967295 lines, skipped and refused ones included, count as running out of memory.
+/// Reads the requests of systemd-sysusers in a tree. The lines are those of the files that the words name. If there are
+/// no words, they are those of the files in its folders. The lines are read by the facts. Messages on files and words
+/// come before messages on lines. More than 4294967295 lines, skipped and refused ones included, count as running out
+/// of memory.
 pub fn read_requests<T: Tree>(
     alloc: Global,
     tree: &T,

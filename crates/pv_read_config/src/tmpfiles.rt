@@ -12,8 +12,9 @@ use crate::configuration::Configuration;
 use crate::file_lines::{content_at, read_lines};
 use crate::line_reader::LineReader;
 use pv_accounts::{FileNames, group_view, passwd_view};
+use pv_layers::etc_path;
 use pv_lines::{Line, LineFault, name_of, read_line};
-use pv_path::{TreePath, WordList, child};
+use pv_path::{WordList, child};
 use pv_steps::Tree;
 use pv_text::{Facts, Messages, Place, Tool};
 use std::alloc::{AllocError, Global};
@@ -88,7 +89,7 @@ fn account_names<T: Tree>(alloc: Global, tree: &T) -> Result<FileNames<'_>, Allo
     ensures passwd { IfOk result (λ names. names.passwd ≡ content_at (T.state tree.now) passwd_path) }
     ensures group { IfOk result (λ names. names.group ≡ content_at (T.state tree.now) group_path) }
 {
-    let etc = child(alloc, &TreePath::root(alloc), b"etc")?;
+    let etc = etc_path(alloc)?;
     let passwd = child(alloc, &etc, b"passwd")?;
     let group = child(alloc, &etc, b"group")?;
     Ok(FileNames {
@@ -97,10 +98,10 @@ fn account_names<T: Tree>(alloc: Global, tree: &T) -> Result<FileNames<'_>, Allo
     })
 }
 
-/// The configuration of systemd-tmpfiles in a tree: the lines of the files that the words name, or without words of
-/// those that its folders hold, read by the facts and by the users and groups of the tree's account files. What is
-/// said of files and words comes before what is said of lines. More than 4294967295 lines, skipped and refused ones
-/// included, count as running out of memory.
+/// Reads the configuration of systemd-tmpfiles in a tree. The lines are those of the files that the words name. If
+/// there are no words, they are those of the files in its folders. The lines are read by the facts, and by the users
+/// and groups of the tree's account files. Messages on files and words come before messages on lines. More than
+/// 4294967295 lines, skipped and refused ones included, count as running out of memory.
 pub fn read_configuration<T: Tree>(
     alloc: Global,
     tree: &T,

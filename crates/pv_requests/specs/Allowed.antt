@@ -13,7 +13,7 @@ use Rattle.pv_requests.specs.declared.request.Request.TheVariants as request
 use Rattle.pv_requests.specs.declared.request.UserId.{UserId}
 use Rattle.pv_requests.specs.declared.request.UserId.TheVariants as user
 
--- an ID, where one is given
+-- an ID, if one is given
 abbrev pub is_any_id : Option ℕ → Bool
 is_any_id None = true
 is_any_id (Some n) = is_id n

@@ -56,7 +56,7 @@ with_primary first second =
 abbrev pub plain_user_id : List ℕ → Option UserId
 plain_user_id text = if is_dash text then Some user.Auto else option_map (λ n. user.Number n) (written_id text)
 
--- the ID of a u line that is no path, by what stands between colons
+-- the ID of a u line that is not a path, by what stands between colons
 abbrev pub user_id_by : List (List ℕ) → Option UserId
 user_id_by (text ∷ []) = plain_user_id text
 user_id_by (first ∷ second ∷ []) = with_primary first second

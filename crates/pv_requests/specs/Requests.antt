@@ -27,7 +27,7 @@ type_of text =
     else if same_bytes text (codes "r") then Ok line.Range
     else Err fault.BadType
 
--- a request, where there is no text after the shell
+-- a request, if there is no text after the shell
 abbrev pub ended : Bool → Request → Result Request RequestFault
 ended more request = if more then Err fault.BadField else Ok request
 

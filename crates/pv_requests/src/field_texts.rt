@@ -63,7 +63,7 @@ pub(crate) fn written(
     Ok(Bytes::from_vec(expand(alloc, text.as_slice(), facts, Tool::Sysusers)?))
 }
 
-/// The text of a field with its specifiers expanded; nothing where the field is omitted.
+/// The text of a field with its specifiers expanded; nothing if the field is omitted.
 pub(crate) fn given(
     alloc: Global,
     facts: &Facts,

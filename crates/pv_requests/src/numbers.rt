@@ -96,7 +96,7 @@ fn with_primary(alloc: Global, first: &[u8], second: &[u8]) -> Result<Option<Use
     }
 }
 
-/// The ID of a u line that has no colon and is no path.
+/// The ID of a u line that has no colon and is not a path.
 fn plain_user_id(text: &[u8]) -> Option<UserId>
     ensures { result ≡ plain_user_id text.now }
 {
@@ -106,7 +106,7 @@ fn plain_user_id(text: &[u8]) -> Option<UserId>
     Some(UserId::Number(written_id(text)?))
 }
 
-/// The ID of a u line that is no path.
+/// The ID of a u line that is not a path.
 fn user_id_by(alloc: Global, text: &[u8]) -> Result<Option<UserId>, AllocError>
     ensures { IfOk result (λ found. found ≡ user_id_by (slice_split (λ b. b == 58) text.now)) }
 {
@@ -132,7 +132,7 @@ pub(crate) fn user_id_in(alloc: Global, text: &[u8]) -> Result<Option<UserId>, A
     }
 }
 
-/// The ID of a g line that is no path.
+/// The ID of a g line that is not a path.
 fn plain_group_id(text: &[u8]) -> Option<GroupId>
     ensures { result ≡ plain_group_id text.now }
 {

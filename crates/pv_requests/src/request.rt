@@ -14,11 +14,11 @@ pub enum Request {
         id: UserId,
         /// Whether nobody may log in by the account at all.
         locked: bool,
-        /// The full name or another comment, where one is given.
+        /// The full name or another comment, if one is given.
         gecos: Option<Bytes>,
-        /// The home directory, where one is given.
+        /// The home directory, if one is given.
         home: Option<Bytes>,
-        /// The login shell, where one is given.
+        /// The login shell, if one is given.
         shell: Option<Bytes>,
         /// Where the line stands.
         place: Place,

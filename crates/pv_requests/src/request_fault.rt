@@ -1,4 +1,4 @@
-//! Why a text is no line of sysusers.d(5).
+//! Why a text is not a line of sysusers.d(5).
 ghost use Rattle.std.specs.Prelude.{◌≡◌};
 ghost use Rattle.pv_requests.specs.Faults.{name_of, of_expansion};
 ghost use Rattle.pv_requests.specs.declared.request_fault.RequestFault.TheVariants.{Memory};
@@ -7,7 +7,7 @@ use pv_text::{ExpandFault, FieldFault};
 use std::alloc::{AllocError, AllocFailed};
 use thiserror::Error;
 
-/// Why a text is no line of sysusers.d(5), in the order in which the checks are made. A fault of running out of memory is
+/// Why a text is not a line of sysusers.d(5), in the order in which the checks are made. A fault of running out of memory is
 /// always `Memory` itself.
 #[derive(Clone, Copy, Debug, PartialEq, Eq, Error)]
 pub enum RequestFault {

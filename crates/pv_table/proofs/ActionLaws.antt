@@ -30,7 +30,7 @@ abbrev is_making : Action → Bool
 is_making (Create making) = true
 is_making other = false
 
--- whether a type makes what stands at its path
+-- whether a type makes the object at its path
 abbrev makes_type : ℕ → Bool
 makes_type letter = option_map_or (λ row. row.creates) (type_of letter) false
 
@@ -39,7 +39,7 @@ abbrev Each : (ℕ × (Line → Action) → Type 0) → List (ℕ × (Line → A
 Each P [] = Unit {0}
 Each P (row ∷ rows) = P row × Each P rows
 
--- a row makes something only where its type does
+-- a row makes something only if its type does
 abbrev Agrees : ℕ × (Line → Action) → Type 0
 Agrees row = (line : Line) → is_making (row.1 line) ≡ true → makes_type row.0 ≡ true
 

@@ -24,11 +24,12 @@ name_exact_by : (n m : List ℕ) → eq_by_cmp name_cmp n m ≡ true → n ≡ m
 name_exact_by n m e = name_cmp-exact n m (equal_of (name_cmp n m) e)
 
 -- the length of all paths together
-pub all_lengths : List Path → ℕ
+all_lengths : List Path → ℕ
 all_lengths [] = 0
 all_lengths (p ∷ ps) = length p + all_lengths ps
 
 no_longer : (ps : List Path) (q : Path) → list_any (eq_by_cmp path_cmp q) ps ≡ true → length q ≤ all_lengths ps
+unfolding all_lengths
 no_longer [] q h = cc
 no_longer (p ∷ ps) q h = by (eq_by_cmp path_cmp q p) refl (no_longer ps q) h
   where
@@ -66,7 +67,7 @@ module _ (t : Files) where
           ∙ local f g q (λ n at. from depth (q ++ n ∷ []) at (let lengths = length-append q (n ∷ []) in omega (arith, lengths, long)))
           ∙ sym (are_g q there)
 
-  -- in a tree, all of some children go exactly where the path is no directory or they do
+  -- in a tree, all of some children go exactly if the path is not a directory or they do
   pub children_all : IsTree t → (f : Path → Bool) (q : Path) → children_go f t q ≡ list_all (λ n. f (q ++ n ∷ [])) (names_below t q)
   children_all tree f q = by (is_directory_at (places t) q) refl
     where

@@ -1,4 +1,4 @@
--- Laws of what a line leaves: what stands at each path of a prepared tree, and after what is done at a path.
+-- Laws of what a line leaves: the object at each path of a prepared tree, and after what is done at a path.
 use Rattle.std.specs.Prelude.{◌≡◌, ℕ, true, List, [], ◌∷◌, ◌++◌, map, filter_map, Option, Some, None, is_some, option_map}
 use Rattle.std.proofs.Common.{refl, sym, ap, subst, ◌∙◌, inl, inr, append-nil}
 use Rattle.std.specs.FinMap as fin

@@ -26,7 +26,7 @@ content-object_state : (o : Option Object) → content_of o ≡ content_of (opti
 content-object_state None = refl
 content-object_state (Some o) = refl
 
--- what is the same but for stamps is read alike
+-- what is the same except for timestamps is read alike
 pub same_content : (x y : Option Object) → option_map object_state x ≡ option_map object_state y → content_of x ≡ content_of y
 same_content x y e = content-object_state x ∙ ap content_of e ∙ sym (content-object_state y)
 
@@ -44,7 +44,7 @@ pub record MayChange (line : Line) (q : Path) : Type 0 where
   pub changes : changes_content line ≡ true
   pub governs : governs line q ≡ true
 
--- where no line may, none passes a test that only such lines pass
+-- if no line may, none passes a test that only such lines pass
 module _ (lines : List Line) (free : (i : ℕ) → HasReason lines i reason.Input → ⊥) (q : Path) (input : is_input q ≡ true) (named : has_names q ≡ true) where
   pub none_passes : (test : Line → Bool) → ((line : Line) (i : ℕ) → IsAt lines i line → test line ≡ true → MayChange line q) → list_any test lines ≡ false
   none_passes test may = by (list_any test lines) refl

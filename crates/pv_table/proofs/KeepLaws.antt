@@ -17,20 +17,12 @@ use Rattle.pv_path.proofs.Tests.{list_any-find}
 
 -- ---- the line that makes the same
 
--- a creating line makes what an earlier one makes exactly where that makes what stands at its path
+-- a creating line makes what an earlier one makes exactly if that makes the object at its path
 make_same-makes : (line first : Line) → is_creating line ≡ true → make_same first line ≡ makes (path_in line.path) first
 make_same-makes line first e = rw (e, and-true (is_creating first)) refl
 
 make_same-other : (line first : Line) → is_creating line ≡ false → make_same first line ≡ false
 make_same-other line first e = rw (e, and-false (is_creating first)) refl
-
--- the first line that makes what a line over a path makes
-pub find-literal : (kept : List Line) (line : Line) (path : Path) → line.path ≡ Literal path → find (λ first. make_same first line) kept ≡ find (makes path) kept
-find-literal kept line path is =
-    let creates : is_creating line ≡ true = rw is refl in
-    let own : path_in line.path ≡ path = rw is refl in
-    let tests : (λ first. make_same first line) ≡ makes path = λ j first. (make_same-makes line first creates ∙ ap (λ (p : Path). makes p first) own) j in
-    ap (λ (test : Line → Bool). find test kept) tests
 
 -- no line makes what a line over a pattern makes
 none_like : (kept : List Line) (line : Line) → is_creating line ≡ false → find (λ first. make_same first line) kept ≡ None
@@ -40,7 +32,7 @@ none_like (first ∷ kept) line e = rw (make_same-other line first e) (none_like
 pub find-glob : (kept : List Line) (line : Line) (pattern : Pattern) → line.path ≡ Glob pattern → find (λ first. make_same first line) kept ≡ None
 find-glob kept line pattern is = none_like kept line (rw is refl)
 
--- the first line that makes what stands at a path stands at the place of the index
+-- the first line that makes the object at a path stands at the place of the index
 pub find-at : (kept : List Line) (path : Path) (i : ℕ) → first_place (makes path) kept ≡ Some i → find (makes path) kept ≡ slice_get kept i
 find-at kept path i at = let w = found (makes path) kept i at in w.1.0
 
@@ -87,7 +79,7 @@ makes-literal line path q is = rw is refl
 pub makes-glob : (line : Line) (pattern : Pattern) (q : Path) → line.path ≡ Glob pattern → makes q line ≡ false
 makes-glob line pattern q is = rw is refl
 
--- ---- no two lines make what stands at one path
+-- ---- no two lines make the object at one path
 
 any_more : {A : Type 0} (test : A → Bool) (xs : List A) (x : A) → list_any test xs ≡ false → test x ≡ false → list_any test (xs ++ x ∷ []) ≡ false
 any_more test [] x none other = rw other refl
@@ -105,7 +97,7 @@ apart-push (first ∷ kept) line distinct none =
 pub distinct-push : (kept : List Line) (line : Line) → are_distinct kept ≡ true → find (λ first. make_same first line) kept ≡ None → are_distinct (kept ++ line ∷ []) ≡ true
 distinct-push kept line distinct none = apart-push kept line distinct (list_any-find (λ first. make_same first line) kept ∙ ap is_some none)
 
--- lines of which no two make what stands at one path, with further lines
+-- lines of which no two make the object at one path, with further lines
 kept-distinct : (kept todo : List Line) → are_distinct kept ≡ true → are_distinct (fold with_line kept todo) ≡ true
 kept-distinct kept [] distinct = distinct
 kept-distinct kept (line ∷ todo) distinct = kept-distinct (with_line kept line) todo (one_more (list_any (λ first. make_same first line) kept) refl)

@@ -1,11 +1,10 @@
 -- The place of the first item that passes a test.
-use Rattle.std.proofs.Common.{◌≡◌, ◌∙◌, sym, ap, refl, arith, suc, zero, append_assoc, drop, get_or}
+use Rattle.std.proofs.Common.{◌≡◌, ◌∙◌, ap, refl, arith, suc, zero}
 use Rattle.std.specs.Prelude.{ℕ, ◌+◌, ◌<◌, Bool, true, false, cond, ◌||◌, List, [], ◌∷◌, ◌++◌, length, map, filter, find, Option, Some, None, option_map, slice_get}
 use Rattle.std.specs.List.{list_any, enumerate_from}
 use Rattle.std.specs.Option.{option_or}
 use Rattle.std.proofs.lemmas.Bool.{or_parts}
 use Rattle.pv_table.specs.Building.{first_place}
-use Rattle.pv_path.proofs.Tests.{next_item}
 
 -- ---- tests
 
@@ -64,22 +63,3 @@ first_place-push test (y ∷ xs) x = elim (test y) as (λ b. cond b (Some 0) (op
 -- the places of the items from one on that pass a test
 abbrev pub places_from : {A : Type 0} → (A → Bool) → ℕ → List A → List ℕ
 places_from test n xs = map (λ x. x.0) (filter (λ x. test x.1) (enumerate_from n xs))
-
--- an item that passes, and one that does not
-pub places-taken : {A : Type 0} (test : A → Bool) (xs : List A) (i : ℕ) (x : A) (order more : List ℕ) → i < length xs → x ≡ get_or xs i x → test x ≡ true → more ≡ order ++ i ∷ []
-    → more ++ places_from test (i + 1) (drop (i + 1) xs) ≡ order ++ places_from test i (drop i xs)
-places-taken {A} test xs i x order more within there passes is =
-    ap (λ (o : List ℕ). o ++ places_from test (i + 1) (drop (i + 1) xs)) is
-    ∙ append_assoc order (i ∷ []) (places_from test (i + 1) (drop (i + 1) xs))
-    ∙ ap (λ (o : List ℕ). order ++ o) (sym (ap (places_from test i) (next_item xs i x within there) ∙ first))
-  where
-    first : places_from test i (x ∷ drop (i + 1) xs) ≡ i ∷ places_from test (i + 1) (drop (i + 1) xs)
-    first = rw passes refl
-
-pub places-left : {A : Type 0} (test : A → Bool) (xs : List A) (i : ℕ) (x : A) (order : List ℕ) → i < length xs → x ≡ get_or xs i x → test x ≡ false
-    → order ++ places_from test (i + 1) (drop (i + 1) xs) ≡ order ++ places_from test i (drop i xs)
-places-left {A} test xs i x order within there other =
-    ap (λ (o : List ℕ). order ++ o) (sym (ap (places_from test i) (next_item xs i x within there) ∙ first))
-  where
-    first : places_from test i (x ∷ drop (i + 1) xs) ≡ places_from test (i + 1) (drop (i + 1) xs)
-    first = rw other refl

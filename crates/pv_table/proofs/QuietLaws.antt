@@ -1,4 +1,4 @@
--- Runs of lines from trees that are the same but for stamps leave such trees, and refuse and say the same, whatever their
+-- Runs of lines from trees that are the same except for timestamps leave such trees, and refuse and say the same, whatever their
 -- moments.
 use Rattle.std.proofs.Common.{◌≡◌, ◌∙◌, sym, ap, subst, refl}
 use Rattle.std.specs.Prelude.{ℕ, ◌-◌, ◌+◌, Bool, true, false, not, cond, ◌&&◌, ◌||◌, ◌==◌, nat_lt, List, [], ◌∷◌, ◌++◌, length, take, map, filter, fold, Option, Some, None, is_some, option_map, option_and_then, unwrap_or, T}
@@ -41,7 +41,7 @@ use Rattle.pv_table.specs.Saying.{found, refused_text, texts, turn_texts}
 use Rattle.pv_table.specs.Turns.{Refused, Turn, View, copied, decide, has_something, named_refusal, owner_made, refused_at, source_refusal, view_of}
 use Rattle.pv_steps.proofs.ObjectLaws.{is_some-same}
 
--- ---- places that differ in stamps alone
+-- ---- places that differ in timestamps alone
 
 abbrev pub Alike : Places → Places → Type 0
 Alike t u = (q : Path) → object_states t q ≡ object_states u q

@@ -24,7 +24,7 @@ use Rattle.pv_path.proofs.Tests.{next_item}
 
 -- ---- the first place
 
--- what stands at the first place passes
+-- the object at the first place passes
 pub record IsFirst {A : Type 0} (test : A → Bool) (xs : List A) (i : ℕ) : Type 0 where
   pub item : A
   pub there : slice_get xs i ≡ Some item
@@ -410,7 +410,7 @@ ranks_are_placed lines distinct = placed-ranks lines distinct 0 lines [] refl (r
 
 -- ---- line by line
 
--- a line that makes something is the first of some place among those that make what stands at its path
+-- a line that makes something is the first of some place among those that make the object at its path
 pub first_known-own : (lines : List Line) (i : ℕ) (line : Line) (path : Path) → i < length lines → line ≡ get_or lines i line → line.path ≡ Literal path → first_known lines lines path ≡ first_under lines path
 first_known-own lines i line path within there is =
     let at : slice_get lines i ≡ Some line = slice_get_read lines (length lines) i line refl within there in

@@ -1,4 +1,4 @@
--- Objects that are found the same but for stamps are the same without them; and the stamps of an object that is made another.
+-- Objects that are found the same except for timestamps are the same without them; and the timestamps of an object that is made another.
 use Rattle.std.specs.Prelude.{◌≡◌, ℕ, Bool, true, false, ◌&&◌, List, if◌then◌else◌}
 use Rattle.std.specs.Bool.{Decides}
 use Rattle.std.specs.Cmp.Lexicographic.{pointwise_decides}
@@ -18,7 +18,7 @@ use Rattle.pv_walk.specs.Nodes.{object_state_of, same_kind}
 use Rattle.pv_table.specs.Effects.{same_attr, same_object_state, as_object_state, restamped}
 use Rattle.pv_walk.proofs.Repeating.{same_kind-refl}
 
--- ---- the same but for stamps
+-- ---- the same except for timestamps
 
 pub same_kind-true : (a b : Kind) → same_kind a b ≡ true → a ≡ b
 same_kind-true Directory Directory h = refl
@@ -86,7 +86,7 @@ bytes_cases a b = by (same_bytes a b) refl
     by true e = inl ((same_bytes-decides a b).0 e)
     by false e = inr e
 
--- ---- stamps
+-- ---- timestamps
 
 module _ (now : ℕ) where
   -- by whether the object and its bytes are the same
@@ -109,7 +109,7 @@ module _ (now : ℕ) where
     | inr e ↦ restamped-differs b o e false f
   ]
 
-  -- without its stamps it is what it is to be
+  -- without its timestamps it is what it is to be
   pub object_state_restamped : (b : ObjectState) (o : Object) → object_state_of (restamped now b o) ≡ b
   object_state_restamped b o = elim (object_state_cases b (object_state_of o)) [
     | inl e ↦ ap object_state_of (restamped-same b o e) ∙ sym e

@@ -25,7 +25,7 @@ use Rattle.pv_table.proofs.Rows.{line, pattern_line}
 
 -- ---- lines and trees
 
--- what stands at the paths of some entries
+-- the object at the paths of some entries
 abbrev at : List (Path × Object) → Places
 at entries = λ q. option_map (λ (e : Path × Object). e.1) (find (λ e. same_path e.0 q) entries)
 
@@ -48,7 +48,7 @@ with_argument given l = record l { argument = given }
 abbrev with_mode : ℕ → Bool → Line → Line
 with_mode value masked l = record l { mode = Some (record { value = value; masked = masked; new_only = false }) }
 
--- what is left at a path that comes by a rest after that of a line, by what stands there
+-- what is left at a path that comes by a rest after that of a line, by the object there
 abbrev left : Line → Path → List (Path × Object) → Path → Option ObjectState
 left l path entries rest = after_turn (decide (action_of l) (seen entries) path) rest (object_states_of (at entries) (path ++ rest))
 
@@ -165,14 +165,14 @@ without_a_source_nothing_is_done = refl
 
 -- ---- ages
 
--- an age of some days by the stamps that an age without letters looks at
+-- an age of some days by the timestamps that an age without letters looks at
 abbrev days : ℕ → Bool → Age
 days count spare_first = record { micros = count * 86400000000; by = record { 0 = 223 }; spare_first = spare_first }
 
 abbrev with_age : Age → Line → Line
 with_age given l = record l { age = Some given }
 
--- a file with all its stamps at a moment
+-- a file with all its timestamps at a moment
 abbrev file_of : ℕ → Option Object
 file_of moment = Some (fresh File 0o644 [] 0 0 moment)
 

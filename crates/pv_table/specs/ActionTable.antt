@@ -1,4 +1,5 @@
 -- What lines of each type do in each phase: no other definition looks at the letter of a type (tmpfiles.d(5), "Type").
+use Prim.Native.Char.{code}
 use Rattle.std.specs.Prelude.{ℕ, ◌%◌, Bool, true, false, not, ◌&&◌, ◌==◌, List, [], ◌∷◌, ◌++◌, Option, Some, None, option_map, unwrap_or, find, if◌then◌else◌}
 use Rattle.std.specs.Option.{option_map_or}
 use Rattle.pv_acl.specs.declared.line.How.TheVariants.{Replace, Add}
@@ -30,7 +31,7 @@ use Rattle.pv_table.specs.declared.taking.Taking.TheVariants as taking
 
 -- ---- owners and modes
 
--- the ID that a new object gets, where one is given
+-- the ID that a new object gets, if one is given
 abbrev pub id_for_new : Option LineId → Option ℕ
 id_for_new field = option_map (λ owner. owner.id) field
 
@@ -112,7 +113,7 @@ making what line = Create (record {
   sets = contents_to_set line (new_kind what) ++ owners_and_mode (Only (new_kind what)) line;
 })
 
--- what stands at another path is copied
+-- the object at another path is copied
 abbrev pub copying : Line → Action
 copying line = Copy (record {
   source = source_of line.argument;
@@ -148,27 +149,27 @@ set_by plus other = []
 -- there, z Z owners and modes, a A ACLs, t T extended attributes, h H letters, the upper case letter with all below
 abbrev pub actions : List (ℕ × (Line → Action))
 actions =
-    (102, λ line. making (new.File (bytes_of line.argument)) line)
-    ∷ (100, making new.Directory)
-    ∷ (68, making new.Directory)
-    ∷ (118, making new.Directory)
-    ∷ (113, making new.Directory)
-    ∷ (81, making new.Directory)
-    ∷ (112, making new.Fifo)
-    ∷ (76, λ line. making (link_to line.argument) line)
-    ∷ (99, λ line. making (device false line.argument) line)
-    ∷ (98, λ line. making (device true line.argument) line)
-    ∷ (67, copying)
-    ∷ (119, writing)
-    ∷ (101, λ line. adjustment false (Only Directory) (owners_and_mode (Only Directory) line))
-    ∷ (122, λ line. adjustment false Every (owners_and_mode Every line))
-    ∷ (90, λ line. adjustment true Every (owners_and_mode Every line))
-    ∷ (97, λ line. adjustment false Every (set_by line.plus line.argument))
-    ∷ (65, λ line. adjustment true Every (set_by line.plus line.argument))
-    ∷ (116, λ line. adjustment false Every (set_by line.plus line.argument))
-    ∷ (84, λ line. adjustment true Every (set_by line.plus line.argument))
-    ∷ (104, λ line. adjustment false Every (set_by line.plus line.argument))
-    ∷ (72, λ line. adjustment true Every (set_by line.plus line.argument))
+    (code "f", λ line. making (new.File (bytes_of line.argument)) line)
+    ∷ (code "d", making new.Directory)
+    ∷ (code "D", making new.Directory)
+    ∷ (code "v", making new.Directory)
+    ∷ (code "q", making new.Directory)
+    ∷ (code "Q", making new.Directory)
+    ∷ (code "p", making new.Fifo)
+    ∷ (code "L", λ line. making (link_to line.argument) line)
+    ∷ (code "c", λ line. making (device false line.argument) line)
+    ∷ (code "b", λ line. making (device true line.argument) line)
+    ∷ (code "C", copying)
+    ∷ (code "w", writing)
+    ∷ (code "e", λ line. adjustment false (Only Directory) (owners_and_mode (Only Directory) line))
+    ∷ (code "z", λ line. adjustment false Every (owners_and_mode Every line))
+    ∷ (code "Z", λ line. adjustment true Every (owners_and_mode Every line))
+    ∷ (code "a", λ line. adjustment false Every (set_by line.plus line.argument))
+    ∷ (code "A", λ line. adjustment true Every (set_by line.plus line.argument))
+    ∷ (code "t", λ line. adjustment false Every (set_by line.plus line.argument))
+    ∷ (code "T", λ line. adjustment true Every (set_by line.plus line.argument))
+    ∷ (code "h", λ line. adjustment false Every (set_by line.plus line.argument))
+    ∷ (code "H", λ line. adjustment true Every (set_by line.plus line.argument))
     ∷ []
 
 -- what a line asks for; r R x X ask for nothing in the create phase
@@ -180,18 +181,18 @@ action_of line = option_map_or (λ row. row.1 line) (find (λ row. row.0 == line
 -- r takes the object itself, R with all below, D what is below it
 abbrev pub taking_of : Line → Taking
 taking_of line =
-    if line.letter == 114 then taking.Itself
-    else if line.letter == 82 then taking.Whole
-    else if line.letter == 68 then taking.Contents
+    if line.letter == code "r" then taking.Itself
+    else if line.letter == code "R" then taking.Whole
+    else if line.letter == code "D" then taking.Contents
     else taking.Nothing
 
 -- x spares the object, and all below unless the line has an age; X the object itself
 abbrev pub sparing_of : Line → Option Sparing
 sparing_of line =
-    if line.letter == 120 then Some sparing.Whole
-    else if line.letter == 88 then Some sparing.Itself
+    if line.letter == code "x" then Some sparing.Whole
+    else if line.letter == code "X" then Some sparing.Itself
     else None
 
 -- whether a line writes bytes: w
 abbrev pub is_writing : Line → Bool
-is_writing line = line.letter == 119
+is_writing line = line.letter == code "w"

@@ -1,4 +1,5 @@
 -- Which lines are active, and in which order they are carried out (tmpfiles.d(5), systemd-tmpfiles(8)).
+use Prim.Native.Char.{code}
 use Rattle.std.specs.Prelude.{ℕ, Bool, true, false, not, ◌&&◌, ◌||◌, ◌==◌, length, codes, List, [], ◌∷◌, ◌++◌, map, filter, fold, find, Option, if◌then◌else◌}
 use Rattle.std.specs.List.{list_any, slice_split, enumerate_from}
 use Rattle.std.specs.Bool.{beq}
@@ -24,7 +25,7 @@ use Rattle.pv_table.specs.Reaching.{path_in, is_creating}
 
 -- the components of the path of a line as they are written; empty ones do not count
 abbrev pub components : Line → List (List ℕ)
-components line = filter (λ name. not (length name == 0)) (slice_split (λ b. b == 47) line.path_text)
+components line = filter (λ name. not (length name == 0)) (slice_split (λ b. b == code "/") line.path_text)
 
 -- whether a line's path begins with the components of a path
 abbrev pub is_within : Path → Line → Bool
@@ -39,7 +40,7 @@ stays boot prefix exclude line =
 
 -- ---- lines with one path
 
--- whether two lines make what stands at one path
+-- whether two lines make the object at one path
 abbrev pub make_same : Line → Line → Bool
 make_same a b = is_creating a && is_creating b && same_path (path_in a.path) (path_in b.path)
 
@@ -97,7 +98,7 @@ ask_same a b = same_type a b && same_settings a b && same_argument a.argument b.
 abbrev pub duplicate_message : Line → List ℕ
 duplicate_message line = message_text_at line.place (codes "duplicate line for " ++ printed_path (path_in line.path))
 
--- what is said of a line that is dropped: nothing where it asks for the same as the one that stays
+-- what is said of a line that is dropped: nothing if it asks for the same as the one that stays
 abbrev pub dropped_message : Line → Line → List (List ℕ)
 dropped_message first line = if ask_same first line then [] else duplicate_message line ∷ []
 
@@ -113,7 +114,7 @@ dropped_messages kept (line ∷ lines) = line_message kept line ++ dropped_messa
 abbrev pub duplicates : Bool → Option Path → Option Path → List Line → List (List ℕ)
 duplicates boot prefix exclude lines = dropped_messages [] (filter (stays boot prefix exclude) lines)
 
--- no two lines make what stands at one path
+-- no two lines make the object at one path
 abbrev pub are_distinct : List Line → Bool
 are_distinct [] = true
 are_distinct (line ∷ lines) = not (list_any (make_same line) lines) && are_distinct lines
@@ -124,7 +125,7 @@ are_distinct (line ∷ lines) = not (list_any (make_same line) lines) && are_dis
 abbrev pub Listed : Type 0
 Listed = ℕ × Line
 
--- a line stands directly before the first line whose path lies below its own, else at the end
+-- a line stands directly before the first line whose path lies below its own, otherwise at the end
 abbrev pub placed : List Listed → Listed → List Listed
 placed [] line = line ∷ []
 placed (first ∷ lines) line =

@@ -25,7 +25,7 @@ first_of making = by making.renew
     by None = Make (object_state_of (new_object making.new 0))
     by (Some test) = Renew test (object_state_of (new_object making.new 0))
 
--- what lies below goes where the object that is put in its place is no directory, and no directory stays
+-- what lies below goes where the object that is put in its place is not a directory, and no directory stays
 abbrev pub clears_below : Making → Bool
 clears_below making = by making.renew
   where

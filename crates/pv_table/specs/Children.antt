@@ -5,6 +5,6 @@ use Rattle.pv_path.specs.Paths.{Path}
 use Rattle.pv_steps.specs.Trees.{Files, places, names_below}
 use Rattle.pv_table.specs.Removed.{is_directory_at}
 
--- what stands at a path is no directory, or all that stands in it goes
+-- the object at a path is not a directory, or all that stands in it goes
 abbrev pub children_go : (Path → Bool) → Files → Path → Bool
 children_go goes t path = not (is_directory_at (places t) path) || list_all (λ name. goes (path ++ name ∷ [])) (names_below t path)

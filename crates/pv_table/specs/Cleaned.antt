@@ -1,4 +1,4 @@
--- Cleaning: what is old enough to go (tmpfiles.d(5), "Age", x and X). All is judged by the stamps that stand when the
+-- Cleaning: what is old enough to go (tmpfiles.d(5), "Age", x and X). All is judged by the timestamps that stand when the
 -- phase begins.
 use Rattle.std.specs.Prelude.{ℕ, Bool, false, not, ◌&&◌, ◌==◌, List, length, Option, Some, is_some}
 use Rattle.std.specs.List.{list_any}
@@ -19,7 +19,7 @@ abbrev pub is_old_by : Option Scope → ℕ → Option Object → Bool
 is_old_by (Some s) now (Some o) = not (s.age.spare_first && s.own) && is_old o.node s.age now
 is_old_by s now o = false
 
--- whether a path may go by itself: no line names it, and what stands there is old by the age of its directory
+-- whether a path may go by itself: no line names it, and the object there is old by the age of its directory
 abbrev pub may_go : List Line → ℕ → Files → Path → Bool
 may_go lines now t path =
     not (length path == 0) && not (list_any (λ line. names line path) lines)
@@ -29,6 +29,6 @@ may_go lines now t path =
 abbrev pub is_aged : List Line → ℕ → Files → Path → Bool
 is_aged lines now t path = is_some (places t path) && all_at (may_go lines now t) t path
 
--- the tree after the clean phase: a directory that stays keeps its stamps but that of its own change
+-- the tree after the clean phase: a directory that stays keeps its timestamps but that of its own change
 abbrev pub cleaned : List Line → ℕ → Files → Files
 cleaned lines now t = files_without (is_aged lines now t) (changed now) t

@@ -95,7 +95,7 @@ created lines now t = after_each (by_line now) (in_create_order lines) t
 abbrev pub created_messages : List Line → ℕ → Files → List (List ℕ)
 created_messages lines now t = messages_for_each (by_line now) (in_create_order lines) t
 
--- whether one is refused at some turn, but for lines with `-`
+-- whether one is refused at some turn, except for lines with `-`
 abbrev pub some_refusal_counts : List Line → ℕ → Files → Bool
 some_refusal_counts lines now t = one_is_refused (by_line_that_counts now) (in_create_order lines) t
 

@@ -1,4 +1,4 @@
--- What a line leaves of a tree, stamps included (tmpfiles.d(5)). It knows no staged object and no half-done run.
+-- What a line leaves of a tree, timestamps included (tmpfiles.d(5)). It knows no staged object and no half-done run.
 use Rattle.std.specs.Prelude.{ℕ, Bool, not, ◌&&◌, ◌||◌, ◌==◌, List, [], ◌∷◌, ◌++◌, map, filter, fold, Option, Some, None, option_map, if◌then◌else◌}
 use Rattle.std.specs.FinMap as fin
 use Rattle.std.specs.List.{filter_map}
@@ -31,7 +31,7 @@ use Rattle.pv_table.specs.Turns.{Refused, Turn, view_of, decide, has_something, 
 abbrev pub same_attr : Attr → Attr → Bool
 same_attr a b = same_bytes a.name b.name && same_bytes a.value b.value
 
--- whether two objects are the same but for stamps
+-- whether two objects are the same except for timestamps
 abbrev pub same_object_state : ObjectState → ObjectState → Bool
 same_object_state a b =
     same_kind a.body.kind b.body.kind && same_bytes a.body.payload b.body.payload && a.body.major == b.body.major
@@ -39,7 +39,7 @@ same_object_state a b =
     && a.metadata.special == b.metadata.special && (acl_eq.TheImpl.eq-value).it a.metadata.acl b.metadata.acl
     && pointwise same_attr a.metadata.attrs b.metadata.attrs && a.metadata.letters == b.metadata.letters
 
--- an object with its stamps, as one without says
+-- an object with its timestamps, as one without says
 abbrev pub as_object_state : ObjectState → Object → Object
 as_object_state b o = with_stamps o.node.stamps b
 
@@ -50,7 +50,7 @@ restamped now b o =
     else if same_bytes b.body.payload o.payload then changed now (as_object_state b o)
     else modified now (as_object_state b o)
 
--- an object after an operation that leaves it there, stamps included
+-- an object after an operation that leaves it there, timestamps included
 abbrev pub adjusted : ℕ → Object → Operation → Object
 adjusted now o operation = by (done operation (Some (object_state_of o)))
   where
@@ -84,7 +84,7 @@ prepare now path t = tabulate (parents_of path ++ fin.keys t) (prepared now path
 abbrev pub is_adjusted : Adjustment → Path → Path → Bool
 is_adjusted adjustment path q = same_path path q || (adjustment.deep && is_prefix path q && not (has_staging q))
 
--- what stands at and below a path is adjusted
+-- what is at and below a path is adjusted
 abbrev pub adjust_at : ℕ → Adjustment → Path → Files → Files
 adjust_at now adjustment path t = tabulate (fin.keys t) (λ q. if is_adjusted adjustment path q then option_map (become now adjustment.sets) (places t q) else places t q)
 

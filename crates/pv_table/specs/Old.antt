@@ -9,15 +9,15 @@ use Rattle.pv_age.specs.declared.age.Age.{Age}
 use Rattle.pv_age.specs.declared.stamps.StampSet.{StampSet}
 use Rattle.pv_age.specs.Stamps.{has}
 
--- the stamps of a directory with the bits of the letters A, B, C and M
+-- the timestamps of a directory with the bits of the letters A, B, C and M
 abbrev pub of_directory : Stamps → List (ℕ × ℕ)
 of_directory stamps = (2, stamps.access) ∷ (8, stamps.birth) ∷ (32, stamps.change) ∷ (128, stamps.modify) ∷ []
 
--- the stamps of any other object with the bits of the letters a, b, c and m
+-- the timestamps of any other object with the bits of the letters a, b, c and m
 abbrev pub of_other : Stamps → List (ℕ × ℕ)
 of_other stamps = (1, stamps.access) ∷ (4, stamps.birth) ∷ (16, stamps.change) ∷ (64, stamps.modify) ∷ []
 
--- the stamps of an object of a kind with the bits of their letters
+-- the timestamps of an object of a kind with the bits of their letters
 abbrev pub stamps_of_kind : Kind → Stamps → List (ℕ × ℕ)
 stamps_of_kind Directory stamps = of_directory stamps
 stamps_of_kind File stamps = of_other stamps
@@ -30,7 +30,7 @@ stamps_of_kind BlockDevice stamps = of_other stamps
 abbrev pub is_before : StampSet → ℕ → ℕ × ℕ → Bool
 is_before by limit stamp = not (has by stamp.0) || nat_lt stamp.1 limit
 
--- by the age 0 every object is old; else the age is not above the moment, and every chosen stamp lies
+-- by the age 0 every object is old; otherwise the age is not above the moment, and every chosen stamp lies
 -- before the moment minus the age
 abbrev pub is_old : Node → Age → ℕ → Bool
 is_old node age now =

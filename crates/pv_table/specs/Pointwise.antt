@@ -1,4 +1,4 @@
--- What lines that are not refused leave at each path by itself, stamps aside (tmpfiles.d(5)). No tree is folded, and
+-- What lines that are not refused leave at each path by itself, timestamps aside (tmpfiles.d(5)). No tree is folded, and
 -- nothing is refused.
 use Rattle.std.specs.Prelude.{ℕ, Bool, not, ◌&&◌, ◌||◌, List, [], ◌∷◌, ◌++◌, map, fold, take, Option, Some, is_some, unwrap_or, option_map, if◌then◌else◌}
 use Rattle.std.specs.FinMap as fin
@@ -19,7 +19,7 @@ use Rattle.pv_table.specs.ActionTable.{action_of}
 use Rattle.pv_table.specs.Reaching.{names, names_above, path_in}
 use Rattle.pv_table.specs.Turns.{Turn, View, decide}
 
--- what stands at each path, without stamps, as a finite map
+-- the object at each path, without timestamps, as a finite map
 abbrev pub ObjectStates : Type 0
 ObjectStates = fin.FinMap path_cmp ObjectState
 
@@ -52,7 +52,7 @@ at_made action path s q =
 abbrev pub adjusts_path : Line → Adjustment → Path → Bool
 adjusts_path line adjustment q = names line q || (adjustment.deep && names_above line q && not (has_staging q))
 
--- what a line leaves at a path, from what stands at all
+-- what a line leaves at a path, from the object at all
 abbrev pub point : Line → ObjectStates → Path → Option ObjectState
 point line s q = by (action_of line)
   where

@@ -9,11 +9,11 @@ use Rattle.pv_table.specs.Active.{Listed}
 use Rattle.pv_table.specs.Building.{first_place, makes}
 use Rattle.pv_table.specs.Reaching.{is_creating, path_in}
 
--- whether a line makes what stands at or below a path
+-- whether a line makes the object at or below a path
 abbrev pub makes_under : Path → Line → Bool
 makes_under path line = is_creating line && is_prefix path (path_in line.path)
 
--- the place of the first line that makes what stands at or below a path
+-- the place of the first line that makes the object at or below a path
 abbrev pub first_under : List Line → Path → Option ℕ
 first_under lines path = first_place (makes_under path) lines
 

@@ -36,7 +36,7 @@ names_above line q = list_any (λ k. names line (take k q)) (range_with_len 0 (l
 
 -- ---- reach
 
--- whether a line is of a type that makes what stands at its path: such a line has a path, any other a pattern
+-- whether a line is of a type that makes the object at its path: such a line has a path, any other a pattern
 abbrev pub is_creating : Line → Bool
 is_creating line = by line.path
   where

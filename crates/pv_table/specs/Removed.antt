@@ -41,7 +41,7 @@ refused_place line t path = refusal t path (owner_given line)
 abbrev pub is_named : Line → Places → Path → Bool
 is_named line t path = names line path && is_none (refused_place line t path)
 
--- whether what stands at a path is a directory
+-- whether the object at a path is a directory
 abbrev pub is_directory_at : Places → Path → Bool
 is_directory_at t path = option_map_or is_directory (kind_of (t path)) false
 
@@ -77,7 +77,7 @@ judged line t = by (taking_of line)
     by taking.Contents = path_in line.path ∷ []
     by other = filter (names line) (fin.keys t)
 
--- D leaves what is no directory
+-- D leaves what is not a directory
 abbrev pub left_kind : Path → Option Kind → List (List ℕ)
 left_kind path None = []
 left_kind path (Some Directory) = []
@@ -87,7 +87,7 @@ left_kind path (Some kind) = left_text path kind ∷ []
 abbrev pub not_empty : Path → List ℕ
 not_empty path = printed_path path ++ codes " is not empty"
 
--- whether r leaves what stands at a path
+-- whether r leaves the object at a path
 abbrev pub keeps : List Line → Line → Files → Path → Bool
 keeps lines line t path = by (taking_of line)
   where
@@ -122,7 +122,7 @@ is_unfinished lines t =
 
 -- ---- purging
 
--- a line with `$` takes what stands at its path with all below
+-- a line with `$` takes the object at its path with all below
 abbrev pub purges : Line → Places → Path → Bool
 purges line t q = line.purge && is_prefix (path_in line.path) q && is_none (refused_place line t (path_in line.path))
 

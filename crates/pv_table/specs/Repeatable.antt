@@ -76,7 +76,7 @@ changes_content line = is_creating line || is_writing line || takes_named (takin
 
 -- ---- reasons
 
--- the line at a place has a reason; a path in which it lies is one that can stand in a tree
+-- the line at a place has a hazard; a path in which it lies is one that can stand in a tree
 pub data HasReason (lines : List Line) (i : ℕ) : Reason → Type 0 where
   append : (line : Line) → IsAt lines i line → appends line ≡ true → HasReason lines i reason.Append
   source : (line other : Line) (j : ℕ) (path q : Path) → IsAt lines i line → IsAt lines j other
@@ -90,6 +90,6 @@ pub data HasReason (lines : List Line) (i : ℕ) : Reason → Type 0 where
       → ((has_masked_mode other ≡ true) × (sets_base line ≡ true)) ⊎ ((sets_base other ≡ true) × (has_masked_mode line ≡ true))
       → HasReason lines i reason.Mask
 
--- no line has a reason
+-- no line has a hazard
 abbrev pub IsRepeatable : List Line → Type 0
 IsRepeatable lines = (i : ℕ) (r : Reason) → HasReason lines i r → ⊥

@@ -44,8 +44,8 @@ inherited (Some s) = Some (record s { own = false })
 abbrev pub own_scope : Age → Scope
 own_scope age = record { age = age; own = true }
 
--- the age for a directory, whose parent has the one above: none where a line that names it exempts it; else the first
--- that a line which names it gives; else, where no line or only lines that spare it itself name it, that of its parent
+-- the age for a directory, whose parent has the one above: none where a line that names it exempts it; otherwise the first
+-- that a line which names it gives; else, if no line or only lines that spare it itself name it, that of its parent
 abbrev pub scope_at : Option Scope → List Line → Path → Option Scope
 scope_at above lines path =
     if list_any (λ line. names line path && is_exempting line) lines then None

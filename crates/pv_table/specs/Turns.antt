@@ -1,5 +1,5 @@
--- A line at its turn: whether it is refused, and what is done at a path that it names, by what stands there without its
--- stamps (tmpfiles.d(5)).
+-- A line at its turn: whether it is refused, and what is done at a path that it names, by the object there without its
+-- timestamps (tmpfiles.d(5)).
 use Rattle.std.specs.Prelude.{ℕ, Bool, true, false, not, ◌&&◌, List, ◌∷◌, length, take, Option, Some, None, is_some, option_map, unwrap_or, if◌then◌else◌}
 use Rattle.std.specs.List.{list_all, range_with_len}
 use Rattle.std.specs.Option.{option_map_or, option_or, option_and_then}
@@ -46,7 +46,7 @@ copied action = None
 abbrev pub source_owner : Places → Action → Option ℕ
 source_owner t action = option_map (λ o. o.node.uid) (option_and_then t (copied action))
 
--- the owner that an absent last place counts as: the line's user, else that of what it copies, else root
+-- the owner that an absent last place counts as: the line's user, otherwise that of what it copies, otherwise root
 abbrev pub owner_made : Line → Places → ℕ
 owner_made line t = unwrap_or (option_or (id_for_new line.user) (source_owner t (action_of line))) 0
 
@@ -67,7 +67,7 @@ refused_at line path t =
 
 -- ---- what is done
 
--- objects without stamps: the paths at which they stand, and what stands at each
+-- objects without timestamps: the paths at which they stand, and the object at each
 pub record View : Type 0 where
   pub paths : List Path
   pub at : Path → Option ObjectState
@@ -75,7 +75,7 @@ pub record View : Type 0 where
 abbrev pub view_of : Files → View
 view_of t = record { paths = fin.keys t; at = object_states_of (places t) }
 
--- what is done at a path: nothing; an object of this kind is left with a message; what stands there, with all below,
+-- what is done at a path: nothing; an object of this kind is left with a message; the object there, with all below,
 -- gives way to a subtree; or it is adjusted by operations
 pub data Turn : Type 0 where
   Nothing : Turn
@@ -95,7 +95,7 @@ top_of copying directory = record {
 abbrev pub topped_by : Copying → ObjectState → ObjectState
 topped_by copying b = topped (top_of copying (is_directory b.body.kind)) b
 
--- the copy of what stands at and below a path, staging names left out
+-- the copy of what is at and below a path, staging names left out
 abbrev pub copy_of : Copying → View → Subtree
 copy_of copying view = copy_from (topped_by copying) copying.source view.at
 

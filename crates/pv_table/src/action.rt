@@ -14,11 +14,11 @@ pub type OperationList = Sequence<Operation>;
 /// What a line asks for in the create phase (tmpfiles.d(5), "Type").
 #[derive(Drop)]
 pub enum Action {
-    /// An object is made at the line's path, or what stands there is adjusted.
+    /// An object is made at the line's path, or the object there is adjusted.
     Create(Making),
-    /// What stands at another path is copied to the line's path, or what stands there is adjusted.
+    /// The object at another path is copied to the line's path, or the object there is adjusted.
     Copy(Copying),
-    /// What stands at the paths that the line names is adjusted.
+    /// The objects at the paths that the line names are adjusted.
     Adjust(Adjustment),
     /// Nothing.
     Idle,
@@ -55,11 +55,11 @@ pub struct Making {
 pub struct Copying {
     /// The path that is copied.
     pub source: TreePath,
-    /// The mode of the copied object itself, where it is given.
+    /// The mode of the copied object itself, if it is given.
     pub mode: Option<LineMode>,
-    /// The owner of the copied object itself, where it is given.
+    /// The owner of the copied object itself, if it is given.
     pub uid: Option<u32>,
-    /// The owning group of the copied object itself, where it is given.
+    /// The owning group of the copied object itself, if it is given.
     pub gid: Option<u32>,
     /// Whether an object of another kind is replaced.
     pub renews: bool,

@@ -79,7 +79,7 @@ pub fn is_writing(line: &Line) -> bool
     line.letter == b'w'
 }
 
-/// The ID that a new object gets, where one is given.
+/// The ID that a new object gets, if one is given.
 pub(crate) fn id_for_new(field: Option<LineId>) -> Option<u32>
     ensures { result ≡ id_for_new field }
 {
@@ -278,7 +278,7 @@ fn making(alloc: Global, what: NewKind, line: &Line) -> Result<Action, AllocErro
     }))
 }
 
-/// What stands at another path is copied.
+/// The object at another path is copied.
 fn copying(alloc: Global, line: &Line) -> Result<Action, AllocError>
     ensures { IfOk result (λ action. action ≡ copying line.now) }
 {

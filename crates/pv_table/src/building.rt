@@ -14,9 +14,9 @@ use pv_path::{TreePath, print_path};
 use pv_text::Messages;
 use std::alloc::{AllocError, Global};
 
-/// The active lines of a configuration, in their listing order: those that pass the filters, and of several that make
-/// what stands at one path the first; each other of these is said to be a duplicate, unless it asks for the same
-/// (tmpfiles.d(5); systemd-tmpfiles(8), --boot, --prefix and --exclude-prefix).
+/// Builds the table of the active lines of a configuration, in their listing order (tmpfiles.d(5)). These are the lines
+/// that pass the filters (systemd-tmpfiles(8), --boot, --prefix and --exclude-prefix), and of several that make the
+/// object at one path the first. Each other of these is said to be a duplicate, unless it asks for the same.
 pub fn build(
     alloc: Global,
     lines: LineList,

@@ -10,14 +10,14 @@ ghost use Rattle.pv_table.specs.Created.{IsQuiet};
 ghost use Rattle.pv_table.specs.Orders.{IsCreateOrder};
 ghost use Rattle.pv_table.specs.Reaching.{governs};
 
-/// Of the active lines no two make what stands at one path.
+/// No two active lines make the object at one path.
 pub fn active_lines_make_different_paths()
     ensures { (boot : Bool) (prefix exclude : Option Path) (lines : List LineValue) →
         are_distinct (active boot prefix exclude lines) ≡ true }
 {}
 
-/// In the create order each line that makes something comes once, what lies above before what lies below, and then those
-/// that adjust what is there, as they are listed.
+/// In the create order each line that makes an object comes once, parents before children. Then come those that adjust
+/// what is there, as they are listed.
 pub fn what_lies_above_comes_first()
     ensures { (lines : List LineValue) → IsCreateOrder lines (in_create_order lines) }
 {}

@@ -25,7 +25,7 @@ pub fn named_paths<T: Tree>(
     }
 }
 
-/// A path alone where something stands there, else none.
+/// A path alone where something stands there, otherwise none.
 pub fn standing_at<T: Tree>(
     alloc: Global,
     tree: &T,

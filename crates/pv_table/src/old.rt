@@ -8,9 +8,9 @@ use bitflags::Flags;
 use pv_age::{Age, StampSet};
 use pv_steps::{Kind, Node};
 
-/// Whether an object is old by an age at a moment in microseconds since 1970: by the age 0 always, else
-/// where the age is not above the moment and every timestamp that the age looks at for this kind of object
-/// lies before the moment minus the age. An age that looks at no timestamp of this kind finds it old.
+/// Whether an object is old by an age, at a moment in microseconds since 1970 (tmpfiles.d(5), "Age"). By the age 0 each
+/// object is old. Otherwise the age must not be above the moment. Every timestamp that it looks at for this kind of
+/// object must then lie before the moment minus the age. An age that looks at no timestamp of this kind finds it old.
 pub fn is_old(node: &Node, age: &Age, now: u64) -> bool
     ensures { result ≡ is_old node.now age.now now }
 {

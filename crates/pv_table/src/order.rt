@@ -19,8 +19,8 @@ use pv_path::TreePath;
 use std::alloc::{AllocError, Global};
 use std::collections::BTreeMap;
 
-/// The places of the lines that are carried out in the create phase, in its order: those that make something, what lies
-/// above before what lies below; then those that adjust what is there (tmpfiles.d(5)).
+/// The indexes of the lines of the create phase, in its order (tmpfiles.d(5)). Lines that make an object come first,
+/// parents before children. Then come those that adjust what is there.
 pub fn create_order(alloc: Global, table: &Table) -> Result<IndexList, AllocError>
     ensures { IfOk result (λ order. order ≡ create_order table.now) }
 {

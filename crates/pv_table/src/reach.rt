@@ -17,8 +17,8 @@ pub(crate) fn is_taking(line: &Line) -> bool
     !matches!(taking_of(line), Taking::Nothing)
 }
 
-/// Whether a line is of a type that makes what stands at its path: such a line has a path, any other a pattern
-/// (tmpfiles.d(5), "Type").
+/// Whether a line is of a type that makes the object at its path (tmpfiles.d(5), "Type"). Such a line has a path, any
+/// other a pattern.
 pub fn is_creating(line: &Line) -> bool
     ensures { result ≡ is_creating line.now }
 {

@@ -4,7 +4,7 @@ ghost use Rattle.pv_table.specs.Active.{ask_same, same_argument, same_owners, sa
 
 use pv_lines::{Argument, Line};
 
-/// Whether two lines that make what stands at one path ask for the same. It takes no memory.
+/// Whether two lines that make the object at one path ask for the same. It takes no memory.
 pub(crate) fn ask_same(a: &Line, b: &Line) -> bool
     ensures { result ≡ ask_same a.now b.now }
 {

@@ -8,8 +8,8 @@ use pv_lines::Line;
 use pv_path::{TreePath, pieces_of};
 use std::alloc::{AllocError, Global};
 
-/// Whether a line passes: lines for the boot pass at boot alone, and of all lines those whose path begins with the
-/// components of one path and not with those of another (systemd-tmpfiles(8), --boot, --prefix and --exclude-prefix).
+/// Whether a line passes the filters (systemd-tmpfiles(8), --boot, --prefix and --exclude-prefix). Lines for the boot
+/// pass at boot alone. A line's path has to begin with the components of one path and not with those of another.
 pub(crate) fn stays(
     alloc: Global,
     line: &Line,

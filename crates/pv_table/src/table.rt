@@ -1,5 +1,5 @@
 //! The active lines of a configuration.
-ghost use Rattle.std.specs.Prelude.{◌≡◌, ◌++◌, [], ◌∷◌, true, cond, length, find, None, Some, IfOk, OnOk, slice_get};
+ghost use Rattle.std.specs.Prelude.{◌≡◌, ◌++◌, [], ◌∷◌, true, cond, length, find, None, Some, is_some, IfOk, OnOk, slice_get};
 ghost use Rattle.std.specs.List.{AllByRecursion};
 ghost use Rattle.std.specs.Option.{option_copied};
 ghost use Rattle.indexmap.specs.IndexMap.{get};
@@ -14,8 +14,8 @@ use pv_path::TreePath;
 use std::alloc::{AllocError, Global};
 use std::marker::Model;
 
-/// The active lines of a configuration, as they are listed, each as one that was read; of the lines that make what stands
-/// at one path there is one alone (tmpfiles.d(5)). Clauses see the list.
+/// The active lines of a configuration, as they are listed, each as one that was read (tmpfiles.d(5)). No two lines
+/// make the object at one path. Clauses see the list.
 #[derive(Drop)]
 pub struct Table {
     lines: Vec<Line>,
@@ -73,11 +73,22 @@ impl Table {
         self.lines.len()
     }
 
-    /// The line at a place counted from 0, or nothing past the end. It takes no memory.
+    /// The line at an index counted from 0, or nothing past the end. It takes no memory.
     pub fn line(&self, i: usize) -> Option<&Line>
         ensures { option_copied result ≡ slice_get self.now i }
     {
         self.lines.get(i)
+    }
+
+    /// The line at a place that the table has, counted from 0. It takes no memory.
+    pub fn line_at(&self, place: usize) -> &Line
+        requires { is_some (slice_get self.now place) ≡ true }
+        ensures { slice_get self.now place ≡ Some result.now }
+    {
+        match self.line(place) {
+            Some(line) => line,
+            None => unreachable!(),
+        }
     }
 
     /// The lines as a slice.
@@ -89,14 +100,14 @@ impl Table {
         self.lines.as_slice()
     }
 
-    /// The place of the line that makes what stands at a path. It takes no memory.
+    /// The index of the line that makes the object at a path. It takes no memory.
     pub fn place_of(&self, path: &TreePath) -> Option<usize>
         ensures { result ≡ first_place (makes path.now) self.now }
     {
         self.places.get(path).copied()
     }
 
-    /// The line that makes what stands at a path.
+    /// The line that makes the object at a path.
     fn making(&self, path: &TreePath) -> Option<&Line>
         ensures { option_copied result ≡ find (makes path.now) self.now }
     {

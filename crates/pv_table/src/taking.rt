@@ -7,7 +7,7 @@ pub enum Taking {
     Itself,
     /// The object with all that stands below it.
     Whole,
-    /// What stands below it, where it is a directory.
+    /// What stands below it, if it is a directory.
     Contents,
     /// Nothing.
     Nothing,
