@@ -1,5 +1,5 @@
 -- A generated tree: eight directories with old files, and a configuration of drawn lines over them. Root owns all of it,
--- and all stamps are 0 (this project's own).
+-- and all timestamps are 0 (this project's own).
 use Rattle.std.specs.Prelude.{ℕ, ◌%◌, zero, suc, List, [], ◌∷◌, codes}
 use Rattle.std.specs.Fmt.{decimal}
 use Rattle.std.specs.FinMap as fin

@@ -1,4 +1,4 @@
-//! Trees that are generated from a seed: old files in eight directories, and a configuration of drawn lines over them.
+//! Trees that are generated from a seed: old files in eight directories, and a configuration of random lines for them.
 #![tactic(auto)]
 
 mod counting;

@@ -16,7 +16,7 @@ use Rattle.pv_image.specs.Spelling.{stamp_texts, number_texts, path_texts, HasNa
 use Rattle.pv_image.specs.Reading.{AreNumbers}
 use Rattle.pv_image.proofs.Cutting.{are_apart, split_join}
 
--- ---- stamps
+-- ---- timestamps
 
 pub stamps_again : (stamps : Stamps) → StampsFit stamps → slice_split (λ b. b == 44) (join_with_byte 44 (stamp_texts stamps)) ≡ stamp_texts stamps
 stamps_again stamps fit =

@@ -104,7 +104,7 @@ payload_once BlockDevice x y f g e =
 
 -- ---- nodes
 
--- the columns of an object but for the kind, read as those of one kind
+-- the columns of an object except for the kind, read as those of one kind
 object_once : (a b : Object) → IsObject a → IsObject b → a.node.kind ≡ b.node.kind → mode_text (mode_at a) ≡ mode_text (mode_at b) → decimal a.node.uid ≡ decimal b.node.uid → decimal a.node.gid ≡ decimal b.node.gid
     → stamps_text a.node.stamps ≡ stamps_text b.node.stamps → acl_text a.node.acl ≡ acl_text b.node.acl → payload_text a.node.kind (payload_of a) ≡ payload_text b.node.kind (payload_of b) → extras_of a ≡ extras_of b → a ≡ b
 object_once a b f g kind modes uids gids stamps acls payloads extras =

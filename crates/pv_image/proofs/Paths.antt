@@ -28,7 +28,7 @@ names_last whole path piece name all is = sym all ∙ ap (λ (t : List ℕ). map
 pub path_more : (path : Path) (name : List ℕ) → HasNames path → IsName name → HasNames (path ++ name ∷ [])
 path_more path name is one = all_append is_name path (name ∷ []) is (and_from (is_name name) true one refl)
 
--- a piece that is no name is in no path
+-- a piece that is not a name is in no path
 pub names_none : (before after : List (List ℕ)) (piece : List ℕ) → ((name : List ℕ) → IsName name → piece ≢ printed name) → (path : Path) → HasNames path → before ++ piece ∷ after ≢ map printed path
 names_none [] after piece none [] is e = cc
 names_none [] after piece none (name ∷ path) is e =

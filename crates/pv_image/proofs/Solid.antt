@@ -196,7 +196,7 @@ node_again version e is =
 pub node_whole : (version : Version) (e : Path × Object) → IsEntry version e → lacks 10 (node_text version e) ≡ true
 node_whole version e is = pieces_whole (columns version e) (columns_solid version e)
 
--- and so is an object without its path and its stamps
+-- and so is an object without its path and its timestamps
 pub object_whole : (o : Object) → lacks 10 (object_text o) ≡ true
 object_whole o = pieces_whole (object_texts o) (object_solid o)
 

@@ -101,7 +101,7 @@ after_node n version entries e =
     if has_parent entries e.0 then Ok (InNodes version (entries ++ e ∷ [])) else Err (fault.NoParent n)
     else Err (fault.OutOfOrder n)
 
--- what line n does where it stands: the stage after it, or its fault; nothing where it may not stand there
+-- what line n does where it stands: the stage after it, or its fault; nothing if it may not stand there
 abbrev pub judged : ℕ → Stage → What → Option (Result Stage ImageFault)
 judged n Before Note = Some (Ok Before)
 judged n Before (Header version) = Some (Ok (InFacts version []))

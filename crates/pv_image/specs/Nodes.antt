@@ -13,7 +13,7 @@ use Rattle.pv_image.specs.declared.payload.Payload.{Payload}
 use Rattle.pv_image.specs.Reading.{texts}
 use Rattle.pv_image.specs.Spelling.{kind_text, mode_text, stamps_text}
 
--- the columns that are letters and digits alone: kind, mode, user, group and stamps
+-- the columns that are letters and digits alone: kind, mode, user, group and timestamps
 abbrev pub plain_texts : Plain → List (List ℕ)
 plain_texts plain = kind_text plain.kind ∷ mode_text plain.mode ∷ decimal plain.uid ∷ decimal plain.gid ∷ stamps_text plain.stamps ∷ []
 

@@ -48,7 +48,7 @@ pub record TreeRead (version : Version) (bytes : List ℕ) (files : Files) (rest
 abbrev pub HasNoFactNext : List ℕ → Type 0
 HasNoFactNext bytes = (text rest : List ℕ) → IsCut bytes text rest → (fact : ℕ × List ℕ) → IsByteFact fact → text ≢ fact_text fact
 
--- whether a letter is greater than the last one, where there is one
+-- whether a letter is greater than the last one, if there is one
 abbrev pub letter_after : Option ℕ → ℕ → Bool
 letter_after last letter = option_map_or (λ l. is_lt (nat_cmp l letter)) last true
 

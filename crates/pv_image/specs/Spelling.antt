@@ -78,7 +78,7 @@ numbers_text numbers = join_with_byte 58 (number_texts numbers)
 abbrev pub payload_of : Object → Payload
 payload_of o = record { bytes = o.payload; major = o.node.major; minor = o.node.minor }
 
--- a file's bytes, a link's printed target, a device's numbers, else `-`
+-- a file's bytes, a link's printed target, a device's numbers, otherwise `-`
 abbrev pub payload_text : Kind → Payload → List ℕ
 payload_text File payload = content_text payload.bytes
 payload_text Link payload = printed payload.bytes
@@ -124,7 +124,7 @@ Shows Two extras = Unit {0}
 
 -- ---- nodes
 
--- the columns of a node: kind, path, mode, user, group, stamps, ACL, in version 2 attributes and letters, payload
+-- the columns of a node: kind, path, mode, user, group, timestamps, ACL, in version 2 attributes and letters, payload
 abbrev pub columns : Version → Path × Object → List (List ℕ)
 columns version e =
     kind_text e.1.node.kind ∷ printed_path e.0 ∷ mode_text (mode_of e.1.node.special e.1.node.acl.access) ∷ decimal e.1.node.uid
@@ -168,7 +168,7 @@ fact_text fact = join_with_byte 32 (fact_texts fact)
 abbrev pub node_text : Version → Path × Object → List ℕ
 node_text version e = join_with_byte 32 (columns version e)
 
--- an object without a path and stamps: kind, mode, user, group, ACL, attributes, letters, payload
+-- an object without a path and timestamps: kind, mode, user, group, ACL, attributes, letters, payload
 abbrev pub object_texts : Object → List (List ℕ)
 object_texts o =
     kind_text o.node.kind ∷ mode_text (mode_of o.node.special o.node.acl.access) ∷ decimal o.node.uid ∷ decimal o.node.gid

@@ -24,6 +24,6 @@ node_line e = line (node_text Two e)
 abbrev pub fact_line_of : Values → ℕ → List ℕ
 fact_line_of facts letter = option_map_or (λ value. fact_line (letter, value)) (fin.get facts letter) []
 
--- whether the value of a letter, where it has one, makes a fact of bytes
+-- whether the value of a letter, if it has one, makes a fact of bytes
 abbrev pub fact_fits : Values → ℕ → Bool
 fact_fits facts letter = option_map_or (λ value. is_byte_fact (letter, value)) (fin.get facts letter) true

@@ -15,7 +15,7 @@ pub(crate) fn cut_at(text: &[u8], byte: u8) -> Option<(&[u8], &[u8])>
     Some((&text[..at], &text[at + 1..]))
 }
 
-/// Puts what stands between the places of a byte into the first pieces, and gives how many they are, where there is
+/// Puts what stands between the places of a byte into the first pieces, and gives how many they are, if there is
 /// room for all.
 pub(crate) fn cut_into<'a>(text: &'a [u8], byte: u8, pieces: &mut [&'a [u8]]) -> Option<usize>
     ensures within { IfSome result (λ count. count ≤ length pieces.new) }

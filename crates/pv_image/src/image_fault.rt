@@ -20,8 +20,8 @@ pub enum ImageFault {
     /// A fact's letter or a node's path is not greater than the one before it.
     #[error("OutOfOrder")]
     OutOfOrder(u64),
-    /// The first node is not the root as a directory, a path's parent is no directory read before, or the
-    /// end comes before any node.
+    /// The first node is not the root as a directory, a path's parent is not a directory read before, or the input ends
+    /// before any node.
     #[error("NoParent")]
     NoParent(u64),
     /// The line has no line feed, or the input ends where it should begin.

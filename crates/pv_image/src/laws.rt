@@ -42,8 +42,8 @@ pub fn text_is_read_again()
         IsImage (text_of facts files) g t → (g ≡ facts) × (t ≡ files) }
 {}
 
-/// The text in version 1 of facts and a tree without attributes and letters is an image of them, and of them
-/// alone: so an image of version 1 is written again as the text of the same tree.
+/// The text in version 1 of facts and a tree without attributes and file attribute flags is an image of them, and of
+/// them alone. So an image of version 1 is written again as the text of the same tree.
 pub fn an_old_text_is_an_image()
     ensures image { (facts : Values) (files : Files) → HaveText One facts files →
         IsImage (old_text_of facts files) facts files }

@@ -1,4 +1,4 @@
-//! Lines, and the lines of an image that are no node.
+//! Lines, and the lines of an image that do not hold a node.
 ghost use Rattle.std.specs.Prelude.{◌≡◌, ◌↔◌, true, ◌∷◌, [], IsTrue, IfNone, IfSome, IfOk, codes};
 ghost use Rattle.pv_path.specs.Printing.{printed};
 ghost use Rattle.pv_image.specs.Spelling.{fact_text, fact_texts, header_text, end_text};

@@ -17,11 +17,11 @@ use std::alloc::{AllocError, Global};
 /// The bytes of a file or the target of a link, and the numbers of a device.
 #[derive(Drop)]
 pub struct Payload {
-    /// The bytes of a file or the target of a link; else none.
+    /// The bytes of a file or the target of a link; otherwise none.
     pub bytes: Bytes,
-    /// The major number of a device; else 0.
+    /// The major number of a device; otherwise 0.
     pub major: u32,
-    /// The minor number of a device; else 0.
+    /// The minor number of a device; otherwise 0.
     pub minor: u32,
 }
 

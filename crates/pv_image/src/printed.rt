@@ -17,7 +17,7 @@ fn read_hex(byte: u8) -> Option<u8>
     }
 }
 
-/// The byte that two hexadecimal digits spell, where it is not printed as itself.
+/// The byte that two hexadecimal digits spell, if it is not printed as itself.
 fn read_escaped(high: u8, low: u8, hidden: &[u8]) -> Option<u8>
     ensures { Reads hex_digits (IsEscaped hidden.now) (high ∷ low ∷ []) result }
 {

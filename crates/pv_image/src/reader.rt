@@ -247,9 +247,14 @@ fn read_whole(alloc: Global, bytes: &[u8]) -> Result<Image, ImageFault>
     })
 }
 
-/// Reads an image of either version: the tree and the facts of which the bytes are the one text after some
-/// notes, or the first fault with the number of its line. Bytes that are an image are refused for running out of memory alone.
-/// No step is recorded in the tree. `TooLong` is never answered.
+/// Reads an image of either version. The answer is the tree and the facts, or the first fault with the number of its
+/// line. The bytes are the one text of this tree and these facts after some notes. Bytes that are an image are refused
+/// for running out of memory alone. No step is recorded in the tree. `TooLong` is never answered.
+///
+/// ```text
+/// let image = read_image(alloc, b"tree-image 2\nd / 0755 0 0 0,0,0,0 - - - -\nend\n")?;
+/// image.tree.look(&parse_path(alloc, b"/etc/motd")?)   // nothing: the path is absent
+/// ```
 pub fn read_image(alloc: Global, bytes: &[u8]) -> Result<Image, ImageFault>
     ensures image { IfOk result (λ image. IsImage bytes.now image.facts image.tree.files) }
     ensures steps { IfOk result (λ image. image.tree.steps ≡ []) }

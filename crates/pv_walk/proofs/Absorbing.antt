@@ -73,7 +73,7 @@ module _ (kind : Kind) (xs : List Operation) where
   settled_any : {B : Type 0} (attribute : ObjectState → B) → ((c : Change) → Settled attribute (changed kind c)) → (b : ObjectState) → attribute (all (all b)) ≡ attribute (all b)
   settled_any attribute each b = settled_twice attribute all (chained_any (Settled attribute) (settled-chained attribute) kind each xs) b
 
-  -- the base entries, one by one where no mode is masked, together where no line gives one
+  -- the base entries, one by one where no mode is masked, together if no line gives one
   base_twice : (list_any (is_adjusting is_masked) xs ≡ false) ⊎ (list_any (is_adjusting gives_base) xs ≡ false) → (b : ObjectState) → base (all (all b)).metadata.acl.access ≡ base (all b).metadata.acl.access
   base_twice (inl h) b = λ i. record { owner = owner i; group = group i; other = other i }
     where

@@ -28,7 +28,7 @@ use Rattle.pv_walk.specs.Staging.{new_kind}
 use Rattle.pv_walk.proofs.RemovalLaws.{no_same}
 use Rattle.pv_path.proofs.Tests.{true_not_false}
 
--- these objects stand at and below a path, all stamps now, and else the tree is the old one; the directory of the path has
+-- these objects stand at and below a path, all timestamps now, and else the tree is the old one; the directory of the path has
 -- changed once something stands there
 pub record IsBuilt (now : ℕ) (stage : Path) (s : Path → Option ObjectState) (t u : Files) : Type 0 where
   pub inside : (r : Path) → places u (stage ++ r) ≡ option_map (object_of now) (s r)
@@ -58,13 +58,13 @@ pub kind_object : (now : ℕ) (o : Option ObjectState) → kind_of (option_map (
 kind_object now None = refl
 kind_object now (Some b) = refl
 
--- a directory of the copy that gains a child has all stamps now already
+-- a directory of the copy that gains a child has all timestamps now already
 settled : (now : ℕ) (c : Bool) (o : Option ObjectState) → cond c (option_map (modified now) (option_map (object_of now) o)) (option_map (object_of now) o) ≡ option_map (object_of now) o
 settled now true None = refl
 settled now true (Some b) = refl
 settled now false o = refl
 
--- what stands is what is built, stamps aside
+-- what stands is what is built, timestamps aside
 pub object_states_built : (now : ℕ) (stage : Path) (s : Path → Option ObjectState) (t u : Files) → IsBuilt now stage s t u → (r : Path) → object_states_of (places u) (stage ++ r) ≡ s r
 object_states_built now stage s t u b r = ap (option_map object_state_of) (b.inside r) ∙ again (s r)
   where
@@ -96,7 +96,7 @@ module _ (now : ℕ) (stage : Path) (nonempty : stage ≢ []) (t : Files) (paren
   pub built_start : ((r : Path) → IsAbsentIn (places t) (stage ++ r)) → IsBuilt now stage (λ q. None) t t
   built_start free = record { inside = free; outside = inl ((λ r. refl), refl) }
 
-  -- so nothing else has changed, stamps aside
+  -- so nothing else has changed, timestamps aside
   pub built_outside : (s : Path → Option ObjectState) (u : Files) → IsBuilt now stage s t u → SameOutside (is_prefix stage) t u
   built_outside s u b q h = by b.outside
     where
@@ -227,9 +227,6 @@ module _ (now : ℕ) (stage : Path) (nonempty : stage ≢ []) (t : Files) (paren
         object_is : IsChanged (with_metadata metadata) now h.old h.object → h.object ≡ object_of now (record (plain o) { metadata = metadata })
         object_is (inl e) = e.1 ∙ sym e.0 ∙ ap (with_metadata metadata) old_is
         object_is (inr e) = e.1 ∙ ap (λ x. changed now (with_metadata metadata x)) old_is
-
-        abbrev next : Path → Option ObjectState
-        next = after_piece (Give rest metadata) s
 
         worn_inside : (r : Path) → (rest ≡ r) ⊎ (same_path rest r ≡ false) → places v (stage ++ r) ≡ option_map (object_of now) (after_piece (Give rest metadata) s r)
         worn_inside r (inl e) = subst (λ (p : Path). places v (stage ++ p) ≡ option_map (object_of now) (after_piece (Give rest metadata) s p)) e

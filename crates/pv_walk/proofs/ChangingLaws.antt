@@ -7,7 +7,7 @@ use Rattle.pv_path.specs.Paths.{Path, same_path}
 use Rattle.pv_acl.specs.declared.part.Part.{Part}
 use Rattle.pv_acl.specs.NamedEntries.{is_perm}
 use Rattle.pv_acl.specs.Parts as parts
-use Rattle.pv_acl.specs.Parts.{is_acl, is_part, mode_of, special_of}
+use Rattle.pv_acl.specs.Parts.{is_part, mode_of}
 use Rattle.pv_steps.specs.Attributes.{are_attrs}
 use Rattle.pv_steps.specs.declared.node.Kind.{Kind}
 use Rattle.pv_steps.specs.declared.node.Kind.TheVariants.{Directory, File, Link, Fifo, CharDevice, BlockDevice}
@@ -34,11 +34,11 @@ use Rattle.pv_acl.proofs.Allowed.{perm_fits}
 
 -- ---- objects
 
--- objects that are the same but for stamps, and have the same stamps, are the same
+-- objects that are the same except for timestamps, and have the same timestamps, are the same
 restored : (o x : Object) → o.node.stamps ≡ x.node.stamps → object_state o ≡ object_state x → o ≡ x
 restored o x stamps same = λ i. record (same i) { node = record (same i).node { stamps = stamps i } }
 
--- a change that keeps the stamps
+-- a change that keeps the timestamps
 abbrev pub Keeps : (Object → Object) → Type 0
 Keeps change = (o : Object) → (change o).node.stamps ≡ o.node.stamps
 
@@ -55,7 +55,7 @@ module _ (path : Path) (change : Object → Object) (now : ℕ) (t : Files) (o :
   }
 
   module _ (s : Step) (leaves : after_at (places t) s now ≡ on_at path (λ x. changed now (change x)) (places t)) where
-    -- the change is seen, stamps aside
+    -- the change is seen, timestamps aside
     pub change_busy : Keeps change → change o ≢ o → Differ t (after t s now)
     change_busy keeps differs = (path, λ e. differs (restored (change o) o (keeps o) (same_Some (object_state (change o)) (object_state o) (sym (sym old ∙ e ∙ new)))))
       where
@@ -87,7 +87,7 @@ module _ (path : Path) (change : Object → Object) (now : ℕ) (t : Files) (o :
 
 -- ---- one change after another
 
--- stamps aside, a change leaves what it gives
+-- timestamps aside, a change leaves what it gives
 pub object_states_changed : (path : Path) (change : Object → Object) (now : ℕ) (t u : Files) → ChangedAt change path now t u → (q : Path) → object_states (places u) q ≡ object_states (on_at path change (places t)) q
 object_states_changed path change now t u h q =
     ap (λ p. object_states p q) h.left ∙ by h.is ∙ sym (ap (option_map object_state) (on_at-put path change h.old (places t) h.there q))
@@ -99,7 +99,7 @@ object_states_changed path change now t u h q =
     by (inl s) = put h.object (change h.old) (ap object_state (s.1 ∙ sym s.0))
     by (inr s) = put h.object (change h.old) (ap object_state s.1)
 
--- what stands there afterwards
+-- the object there afterwards
 after_change : (path : Path) (change : Object → Object) (now : ℕ) (t u : Files) → (h : ChangedAt change path now t u) → places u path ≡ Some h.object
 after_change path change now t u h = ap (λ p. p path) h.left ∙ put_at-here path (Some h.object) (places t)
 
@@ -438,14 +438,9 @@ module _ (path : Path) (now : ℕ) (t u : Files) {A : Type 0} (part : Object →
       let same : first.old ≡ o = same_Some first.old o (sym first.there ∙ e) in
       lacks first.object (after_change path change now t u first) (part_kept first.old first.object first.is ∙ ap part same ∙ h)
 
-  pub kept_after : (c : Object → Object) (wanted : A) → ((o : Object) → part o ≡ wanted → c o ≡ o) → ((o : Object) → c o ≡ o → part o ≡ wanted) → IsKeptBy c path t → IsKeptBy c path u
-  kept_after c wanted wears worn kept o e =
-      let same : first.object ≡ o = same_Some first.object o (sym (after_change path change now t u first) ∙ e) in
-      wears o (ap part (sym same) ∙ part_kept first.old first.object first.is ∙ worn first.old (kept first.old first.there))
-
 -- ---- what changes nothing leaves what is there
 
--- where a change changes nothing of what stands at a path, that stands there after it
+-- where a change changes nothing of the object at a path, that stands there after it
 pub kept_there : (change : Object → Object) (path : Path) (now : ℕ) (t u : Files) → ChangedAt change path now t u → IsKeptBy change path t → places u path ≡ places t path
 kept_there change path now t u a kept = after_change path change now t u a ∙ ap Some (same a.is) ∙ sym a.there
   where

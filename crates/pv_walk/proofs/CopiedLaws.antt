@@ -19,7 +19,6 @@ use Rattle.pv_steps.proofs.NameLaws.{names_below-rise, names_below-are}
 use Rattle.pv_steps.proofs.StepLaws.{is_among, later_among}
 use Rattle.pv_steps.proofs.TreeLaws.{present_above, directory_above}
 use Rattle.pv_walk.specs.declared.object_state.ObjectState.{ObjectState}
-use Rattle.pv_walk.specs.declared.object_state.Body.{Body}
 use Rattle.pv_walk.specs.SettingMetadata.{IsMetadata}
 use Rattle.pv_walk.specs.Nodes.{object_state_of, object_states_of, is_link}
 use Rattle.pv_walk.specs.Operations as operations
@@ -34,7 +33,7 @@ use Rattle.pv_path.proofs.Tests.{first_false}
 
 -- ---- payloads
 
--- what is no file and no link has no bytes
+-- what is not a file and no link has no bytes
 no_bytes : (kind : Kind) (payload : List ℕ) → (kind ≡ File → ⊥) → (kind ≡ Link → ⊥) → PayloadFits kind payload → [] ≡ payload
 no_bytes Directory payload f l h = sym h
 no_bytes File payload f l h = absurd (f refl)
@@ -54,9 +53,6 @@ no_payload t path node tree is file link = by (places t path) refl is
         ap Some (no_bytes x.node.kind x.payload (λ k. file (kind ∙ k)) (λ k. link (kind ∙ k)) (tree.objects path x e).payload)
 
 -- ---- an object of a tree can be copied
-
-body_of : (kind : Kind) (payload : List ℕ) (major minor : ℕ) → Body
-body_of kind payload major minor = record { kind = kind; payload = payload; major = major; minor = minor }
 
 -- what is first made of an object has all of its body
 body_is : (kind : Kind) (b : ObjectState) → b.body.kind ≡ kind → PayloadFits kind b.body.payload → NumbersFit kind b.body.major b.body.minor → (plain b).body ≡ b.body
@@ -167,9 +163,6 @@ among_copied source path rest (k ∷ paths) h = by (among_copied source path res
     by more (Some r) e (inr other) g = later_among (path ++ r) (path ++ rest) (map (λ r. path ++ r) (filter_map (rest_under source) paths)) (more (among_others (source ++ rest) k paths other g))
 
 module _ (top : TopNode) (fits : IsTopNode top) (source : Path) (t : Files) (tree : IsTree t) where
-  abbrev subtree : Path → Option ObjectState
-  subtree = copy_from (topped top) source (object_states_of (places t))
-
   -- no name below the top is a staging name
   visible : (q : Path) → is_some (copy_from (topped top) source (object_states_of (places t)) q) ≡ true → has_staging q ≡ false
   visible [] h = refl

@@ -1,4 +1,4 @@
--- Laws of copies: pieces of work that are done one after the other, and the copy that comes to its path.
+-- Laws of copies: pieces of work that are done one after the other, and the copy that is renamed into place.
 use Rattle.std.specs.Prelude.{◌≡◌, ◌≢◌, ℕ, ◌+◌, ◌-◌, ◌≤◌, Bool, true, false, cond, List, [], ◌∷◌, ◌++◌, length, filter, filter_map, Option, Some, None, is_some, option_map, Result, Ok}
 use Rattle.std.proofs.Common.{refl, sym, ap, subst, ◌∙◌, inl, inr, ◌⊎◌, arith, zero, length-append}
 use Rattle.std.proofs.lemmas.List.{append-nil}
@@ -90,9 +90,9 @@ module _ (now : ℕ) (stage : Path) (nonempty : stage ≢ []) (t : Files) (paren
   pub doing_start : ((r : Path) → IsAbsentIn (places t) (stage ++ r)) → IsPlan all → Doing now stage t all all t
   doing_start free plan = record { objects = λ q. None; stands = built_start now stage nonempty t parent free; stages = λ r. IsAtStage.none refl; filled = λ r found is dir. absurd (let no : None ≡ Some found = is in cc); doable = plan; whole = refl }
 
-  -- while a piece is done nothing has changed elsewhere, stamps aside, and what stands is at its stage: but at its place, where a
+  -- while a piece is done nothing has changed elsewhere, timestamps aside, and what stands is at its stage: but at its place, where a
   -- stage stands, all is as it was
-  -- a directory at its place has no more than its Make step gave it, or has all below it; and what stands there is not the
+  -- a directory at its place has no more than its Make step gave it, or has all below it; and the object there is not the
   -- object that is to stand there unless it was so before
   record IsPieceFilled (objects : Subtree) (rest : Path) (w : Files) : Type 0 where
     here : (found : ObjectState) → standing_at stage w rest ≡ Some found → found.body.kind ≡ Directory → (found ≡ made_directory) ⊎ IsFilledBelow (made_of all) objects rest
@@ -231,9 +231,9 @@ next_done tree moves now stage nonempty all left front p is a b c parent doing r
       (omega (arith, room, one), one_more tree moves stage nonempty all front p parent here (cost_of all - cost_of front) (omega (arith, room, one)) before last),
     )
 
--- ---- the copy comes to its path
+-- ---- the copy is renamed into place
 
--- ---- stamps aside
+-- ---- timestamps aside
 
 -- a subtree stands the same, whatever the moment at which it was put
 module _ (path : Path) (s : Subtree) (t : Places) where
@@ -343,7 +343,7 @@ module _ (now : ℕ) (path : Path) (nonempty : path ≢ []) (s : Path → Option
   pub copy_before : (u : Files) → SameOutside (is_prefix (staging_of path)) t u → Replacing path s t u
   copy_before u h = Replacing.before (λ q plain. sym (h q (staging_outside (staging_of path) (has_staging-staging_of path nonempty) q plain)))
 
-  -- while what stands at the path makes way, or the copy comes there
+  -- while the object at the path makes way, or the copy comes there
   pub copy_published : (u : Files) → places u ≡ with_subtree now (staging_of path) s (places t) → SameOutside (is_prefix (staging_of path)) t u → (w : Files) → Publishing now path u w → Replacing path s t w
   copy_published u is before w (inl c) = Replacing.making_way (record {
     staged = λ rest. object_states_of-same (places w) (places u) (staging_of path ++ rest) (c.pruned.outside (staging_of path ++ rest) (staged_outside path nonempty rest)) ∙ staged_object_state rest;
@@ -395,7 +395,7 @@ copied_some s source t top there =
     by q (inl e) = subst (λ (p : Path). times p ([] ∷ []) ≤ times p (filter (λ rest. is_some (s rest)) (filter_map (rest_under source) (fin.keys t)))) e.0 (omega (arith, count))
     by q (inr d) = let none = cond-zero (same_path [] q) d in omega (arith, none)
 
--- a subtree that is staged and comes to its path
+-- a subtree that is staged and is renamed into place
 module _ {S : Type 0} (tree : Ghosts S) (now : ℕ) (path : Path) (nonempty : path ≢ []) (s : Path → Option ObjectState) (a b : S) (is_tree : IsTree (tree.state a)) (free : IsAbsentIn (places (tree.state a)) (staging_of path)) where
   pub subtree_staging : {A : Type 0} {r : Result A TreeFault} {m : ℕ} (most : ℕ) → m ≤ most → Acted tree (Staging (staging_of path) s (tree.state a)) (IsStagingOf path s) m now a b r
       → Acted tree (Replacing path s (tree.state a)) (IsCopyStep path s) most now a b r

@@ -104,7 +104,7 @@ times_sorted q (e ∷ es) h =
     by rest parts (inr d) =
         ap (λ b. cond b 1 0 + times q (map (λ e. e.0) es)) d ∙ omega arith ∙ rest ∙ ap (λ b. cond (b || list_any (eq_by_cmp path_cmp q) (map (λ e. e.0) es)) 1 0) (sym d)
 
--- a path stands once among the paths of a tree where it is present, and else not at all
+-- a path stands once among the paths of a tree if it is present, and else not at all
 pub times-keys : (files : Files) (q : Path) → times q (fin.keys files) ≡ cond (is_some (places files q)) 1 0
 times-keys files q = times_sorted q (fin.entries files) (fin.entries_sorted files) ∙ ap (λ b. cond b 1 0) (sym (fin.contains_key-keys files q))
 
@@ -150,14 +150,14 @@ times_children path q (k ∷ ks) = by (times_children path q ks) (child_name pat
         cases (inl s) = more s.1 (ap (is_child path) (sym s.0) ∙ ap is_some is)
         cases (inr d) = ap (λ b. cond b 1 0 + cond (is_child path q) (times q ks) 0) d ∙ omega arith ∙ fewer d
 
--- a path stands once among the children of a path where it is a present child, and else not at all
+-- a path stands once among the children of a path if it is a present child, and else not at all
 pub times-children : (files : Files) (path q : Path) → times q (children_of files path) ≡ cond (is_child path q && is_some (places files q)) 1 0
 times-children files path q =
     times_children path q (fin.keys files)
     ∙ ap (λ n. cond (is_child path q) n 0) (times-keys files q)
     ∙ elim (is_child path q) as (λ b. ◌≡◌ {A = ℕ} (cond b (cond (is_some (places files q)) 1 0) 0) (cond (b && is_some (places files q)) 1 0)) [ true ↦ refl | false ↦ refl ]
 
--- of what stands at and below a path as it stood there are no more objects
+-- of what is at and below a path as it stood there are no more objects
 pub count_same : (path : Path) (t u : Files) → ((q : Path) → is_prefix path q ≡ true → is_some (places u q) ≡ is_some (places t q)) → count_at u path ≤ count_at t path
 count_same path t u present = length-times (filter (is_prefix path) (fin.keys u)) (filter (is_prefix path) (fin.keys t))
     (λ q. omega (arith, times-filter (is_prefix path) q (fin.keys u), times-filter (is_prefix path) q (fin.keys t), same q (cases_Bool (is_prefix path q))))

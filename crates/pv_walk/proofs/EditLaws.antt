@@ -1,15 +1,14 @@
--- Laws of edits: what a tree has at each path after an object came, changed, went or moved, with its stamps and without.
-use Rattle.std.specs.Prelude.{◌≡◌, ◌≢◌, ℕ, Bool, true, false, cond, [], ◌∷◌, ◌++◌, Option, Some, None, option_map}
+-- Laws of edits: what a tree has at each path after an object came, changed, went or moved, with its timestamps and without.
+use Rattle.std.specs.Prelude.{◌≡◌, ◌≢◌, ℕ, Bool, true, false, cond, [], Option, Some, None, option_map}
 use Rattle.std.proofs.Common.{refl, sym, ap, subst, ◌∙◌, inl, inr, ◌⊎◌}
-use Rattle.std.proofs.lemmas.List.{append-nil}
 use Rattle.pv_path.specs.Paths.{Path, same_path, is_prefix, rest_under, parent_of, has_staging, same_path-decides}
 use Rattle.pv_path.proofs.PathLaws.{same_path-refl, parent_of-differs, has_staging-extends, same_path-no}
 use Rattle.pv_steps.specs.declared.object.Object.{Object}
 use Rattle.pv_steps.specs.Objects.{object_state, changed, modified}
 use Rattle.pv_steps.specs.Trees.{Files, Places}
-use Rattle.pv_steps.specs.Steps.{put_at, on_at, touched, made, gone, carried, moved, moved_at}
+use Rattle.pv_steps.specs.Steps.{put_at, on_at, touched, made, moved, moved_at}
 use Rattle.pv_steps.specs.Same.{object_states, Same}
-use Rattle.pv_walk.specs.Edits.{Pruned, SameOutside}
+use Rattle.pv_walk.specs.Edits.{Pruned}
 
 -- ---- one path and the others
 
@@ -87,7 +86,7 @@ module _ (now : ℕ) (path : Path) (t : Places) (nonempty : path ≢ []) where
   pub on_at-made : (f : Object → Object) (o : Object) (q : Path) → on_at path f (made now path o t) q ≡ made now path (f o) t q
   on_at-made f o q = on_at-put path f o (made now path o t) (made-here o) q ∙ put_at-made o (f o) q
 
--- ---- without stamps
+-- ---- without timestamps
 
 object_state-both : (f g : Object → Object) → ((o : Object) → object_state (f o) ≡ object_state (g o)) → (o : Option Object) → option_map object_state (option_map f o) ≡ option_map object_state (option_map g o)
 object_state-both f g same None = refl
@@ -101,7 +100,7 @@ object_state-past : (f : Object → Object) → ((o : Object) → object_state (
 object_state-past f past None = refl
 object_state-past f past (Some o) = ap Some (past o)
 
--- changes that differ in stamps alone
+-- changes that differ in timestamps alone
 pub object_states-on_at : (p : Path) (f g : Object → Object) → ((o : Object) → object_state (f o) ≡ object_state (g o)) → (t : Places) (q : Path) → object_states (on_at p f t) q ≡ object_states (on_at p g t) q
 object_states-on_at p f g same t q =
     elim (same_path p q) as (λ c. option_map object_state (cond c (option_map f (t q)) (t q)) ≡ option_map object_state (cond c (option_map g (t q)) (t q))) [
@@ -109,7 +108,7 @@ object_states-on_at p f g same t q =
       | false ↦ refl
     ]
 
--- a change of stamps alone
+-- a change of timestamps alone
 pub object_states-stamped : (p : Path) (f : Object → Object) → ((o : Object) → object_state (f o) ≡ object_state o) → (t : Places) (q : Path) → object_states (on_at p f t) q ≡ object_states t q
 object_states-stamped p f same t q =
     elim (same_path p q) as (λ c. option_map object_state (cond c (option_map f (t q)) (t q)) ≡ option_map object_state (t q)) [
@@ -117,7 +116,7 @@ object_states-stamped p f same t q =
       | false ↦ refl
     ]
 
--- a change that does not look at stamps gives the same of trees that are the same without stamps
+-- a change that does not look at timestamps gives the same of trees that are the same without timestamps
 pub object_states-on_both : (p : Path) (f : Object → Object) → ((o : Object) → object_state (f o) ≡ f (object_state o)) → (t u : Places) (q : Path) → object_states t q ≡ object_states u q → object_states (on_at p f t) q ≡ object_states (on_at p f u) q
 object_states-on_both p f past t u q same =
     elim (same_path p q) as (λ c. option_map object_state (cond c (option_map f (t q)) (t q)) ≡ option_map object_state (cond c (option_map f (u q)) (u q))) [
@@ -131,35 +130,13 @@ object_states-touched now path t q = object_states-stamped (parent_of path) (mod
 pub object_states-made : (now : ℕ) (path : Path) (o : Object) (t : Places) (q : Path) → object_states (made now path o t) q ≡ object_states (put_at path (Some o) t) q
 object_states-made now path o t q = object_states-touched now path (put_at path (Some o) t) q
 
-pub object_states-gone : (now : ℕ) (path : Path) (t : Places) (q : Path) → object_states (gone now path t) q ≡ object_states (put_at path None t) q
-object_states-gone now path t q = object_states-touched now path (put_at path None t) q
-
 pub object_states-put_else : (p q : Path) (o : Option Object) (t : Places) → same_path p q ≡ false → object_states (put_at p o t) q ≡ object_states t q
 object_states-put_else p q o t e = ap (option_map object_state) (put_at-else p q o t e)
-
--- what a move carries, and what it leaves as it was
-pub object_states-moved_under : (now : ℕ) (from to : Path) (t : Places) (q rest : Path) → rest_under to q ≡ Some rest → object_states (moved now from to t) q ≡ object_states t (from ++ rest)
-object_states-moved_under now from to t q rest e = ap (λ v. option_map object_state (moved_at now from to t q v)) e ∙ by rest
-  where
-    by : (r : Path) → option_map object_state (carried now from t r) ≡ object_states t (from ++ r)
-    by [] = object_state-one (changed now) (λ o. refl) (t from) ∙ ap (object_states t) (sym (append-nil from))
-    by (name ∷ r) = refl
 
 pub moved_away : (now : ℕ) (from to : Path) (t : Places) (q : Path) → rest_under to q ≡ None → is_prefix from q ≡ true → moved now from to t q ≡ None
 moved_away now from to t q e h = ap (moved_at now from to t q) e ∙ ap (λ b. cond b None (touched now from (touched now to t) q)) h
 
-pub object_states-moved_else : (now : ℕ) (from to : Path) (t : Places) (q : Path) → rest_under to q ≡ None → is_prefix from q ≡ false → object_states (moved now from to t) q ≡ object_states t q
-object_states-moved_else now from to t q e h =
-    ap (λ v. option_map object_state (moved_at now from to t q v)) e ∙ ap (λ b. option_map object_state (cond b None (touched now from (touched now to t) q))) h
-    ∙ object_states-touched now from (touched now to t) q ∙ object_states-touched now to t q
-
 -- ---- trees that are the same outside a region
-
-pub same_outside-refl : (inside : Path → Bool) (t : Files) → SameOutside inside t t
-same_outside-refl inside t = λ q h. refl
-
-pub same_outside-trans : (inside : Path → Bool) (t u v : Files) → SameOutside inside t u → SameOutside inside u v → SameOutside inside t v
-same_outside-trans inside t u v a b = λ q h. b q h ∙ a q h
 
 -- paths below a staging name have staging names
 pub staging_outside : (stage : Path) → has_staging stage ≡ true → (q : Path) → has_staging q ≡ false → is_prefix stage q ≡ false
@@ -169,18 +146,11 @@ staging_outside stage s q h = by (is_prefix stage q) refl
     by true e = absurd (let both : true ≡ false = sym (has_staging-extends stage q e s) ∙ h in cc)
     by false e = e
 
--- a change at staging names alone leaves the trees the same
-pub same-SameOutside : (inside : Path → Bool) → ((q : Path) → has_staging q ≡ false → inside q ≡ false) → (t u : Files) → SameOutside inside t u → Same u t
-same-SameOutside inside apart t u h = λ q plain. h q (apart q plain)
-
 pub same-Pruned : (inside : Path → Bool) → ((q : Path) → has_staging q ≡ false → inside q ≡ false) → (t u : Files) → Pruned inside t u → Same u t
 same-Pruned inside apart t u h = λ q plain. h.outside q (apart q plain)
 
 pub same-refl : (t : Files) → Same t t
 same-refl t = λ q h. refl
-
-pub same-sym : (t u : Files) → Same t u → Same u t
-same-sym t u h = λ q plain. sym (h q plain)
 
 pub same-trans : (t u v : Files) → Same t u → Same u v → Same t v
 same-trans t u v a b = λ q plain. a q plain ∙ b q plain

@@ -148,7 +148,7 @@ module _ (now : ℕ) (files : Files) (path : Path) where
             ∙ cut_below-at q other
             ∙ ap (λ b. cond b None (places files q)) (prefixed q other ∙ h)
 
-    -- what is not below it is as it was, or has the stamps of a change
+    -- what is not below it is as it was, or has the timestamps of a change
     pub emptied-kept : (q : Path) → is_below path q ≡ false → IsKept now (places files q) (emptied now path files q)
     emptied-kept q h = by (names_below files path) refl
       where

@@ -93,11 +93,6 @@ in_order_is files f paths rises members =
     ∙ sym (any-filter_same (eq_by_cmp path_cmp q) f (f q) (λ k e. ap f (sym (path_cmp-exact q k (equal_of (path_cmp q k) e)))) (fin.keys files)))
     path_cmp-exact
 
--- one path alone is all that is the same
-pub one_is : (files : Files) (path : Path) → (if_there : List Path) → ((q : Path) → is_one_of if_there q ≡ (is_some (places files q) && same_path path q))
-    → IsStrictlySortedBy path_cmp if_there → if_there ≡ filter (same_path path) (fin.keys files)
-one_is files path if_there members rises = in_order_is files (same_path path) if_there rises members
-
 -- ---- one component more
 
 -- where a path and one name lie directly below one of some paths, it is the path
@@ -349,7 +344,7 @@ written_alone component bytes is plain n h =
     let one : bytes ∷ [] ≡ n ∷ [] = (same_path-decides (bytes ∷ []) (n ∷ [])).0 same in
     cc
 
--- what is no directory has no names
+-- what is not a directory has no names
 pub no_names : (files : Files) → IsTree files → (path : Path) → (kind_of (places files path) ≡ Some Directory → ⊥) → names_below files path ≡ []
 no_names files tree path other = by (names_below files path) refl
   where
@@ -359,7 +354,7 @@ no_names files tree path other = by (names_below files path) refl
         let there : is_some (places files (path ++ n ∷ [])) ≡ true = sym (names_below-are files path n) ∙ ap (list_any (eq_by_cmp name_cmp n)) e ∙ ap (λ b. b || list_any (eq_by_cmp name_cmp n) ns) (ap is_eq (name_cmp-refl n)) in
         absurd (other (directory_above (places files) tree path n [] there))
 
--- ---- what stands at and below a path
+-- ---- what is at and below a path
 
 -- one path, where something stands there
 pub standing_is : (files : Files) (path q : Path) → is_one_of (cond (is_some (places files path)) (path ∷ []) []) q ≡ (is_some (places files q) && same_path path q)
@@ -377,7 +372,7 @@ listed_are files path listed l q = same_tests (is_one_of listed q) (stands_below
     (λ h. cond-true (stands_below files path q) (let some = one_of-some listed q h in omega (arith, some, l.once q)))
     (λ h. one_of-counted listed q (let one : cond {A = ℕ} (stands_below files path q) 1 0 ≡ 1 = ap (λ b. cond b 1 0) h in omega (arith, one, l.once q)))
 
--- together with the path itself it has what stands at and below
+-- together with the path itself it has what is at and below
 pub at_and_below_are : (files : Files) (path : Path) (listed paths : List Path) → IsListing files path listed → paths ≡ listed ++ cond (is_some (places files path)) (path ∷ []) []
     → (q : Path) → is_one_of paths q ≡ (is_some (places files q) && is_prefix path q)
 at_and_below_are files path listed paths l is q =

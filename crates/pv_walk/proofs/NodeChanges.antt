@@ -234,7 +234,7 @@ settled-letters i kind (Letters how letters) = by (carries_letters kind) (settle
 
 -- ---- the default part
 
--- a change that makes a default part where there is none, and changes it alike where there is one
+-- a change that makes a default part if there is none, and changes it alike if there is one
 pub record Fills (f : ObjectState → ObjectState) : Type 0 where
   pub part : Part → Part
   pub plain : IsPlain part

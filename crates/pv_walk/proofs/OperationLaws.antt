@@ -13,10 +13,10 @@ use Rattle.pv_walk.specs.declared.operation.Operation.{Operation}
 use Rattle.pv_walk.specs.declared.operation.Operation.TheVariants.{Renew, Erase}
 use Rattle.pv_walk.specs.Nodes.{object_state_of, object_states_of}
 use Rattle.pv_walk.specs.Operations.{run, stays}
-use Rattle.pv_walk.specs.Reasons.{is_adjusting, is_idle, is_make, is_renewal, is_erasure, makes_late, has_late_make, IsRepeatable}
+use Rattle.pv_walk.specs.Reasons.{is_adjusting, is_idle, is_make, is_erasure, makes_late, has_late_make, IsRepeatable}
 use Rattle.pv_walk.proofs.Repeating as repeating
 
--- objects that are the same but for their stamps are the same without them
+-- objects that are the same except for their timestamps are the same without them
 pub object_state_of-same : (a b : Object) → object_state a ≡ object_state b → object_state_of a ≡ object_state_of b
 object_state_of-same a b e = ap object_state_of e
 
@@ -37,7 +37,7 @@ object_state-same a b e = λ i. record {
   payload = (e i).body.payload;
 }
 
--- what stands at a path is compared without stamps in one way
+-- the object at a path is compared without timestamps in one way
 pub object_states_of-same : (t u : Places) (q : Path) → object_states t q ≡ object_states u q → object_states_of t q ≡ object_states_of u q
 object_states_of-same t u q e = sym (again (t q)) ∙ ap (option_map object_state_of) e ∙ again (u q)
   where
@@ -69,10 +69,6 @@ erased-alike = repeating.erased-alike
 pub erasing-quiet : (xs : List Operation) → list_any is_erasure xs ≡ true → has_late_make xs ≡ false
 erasing-quiet xs e = ap (λ t. not t && makes_late xs) e
 
--- without an erasure and without a make that renews an object keeps its kind
-pub kind_stays : (xs : List Operation) → list_any is_erasure xs ≡ false → list_any is_renewal xs ≡ false → (b : ObjectState) → option_map (λ (n : ObjectState). n.body.kind) (run xs (Some b)) ≡ Some b.body.kind
-kind_stays = repeating.kind_stays
-
 -- operations that nothing is said against, done twice, are done once
 pub run-twice : (xs : List Operation) → IsRepeatable xs → (b : Option ObjectState) → run xs (run xs b) ≡ run xs b
 run-twice = repeating.run-twice
@@ -86,14 +82,6 @@ pub from_the_gap : (idle xs : List Operation) (test : Test) (new b : ObjectState
     → run (idle ++ Renew test new ∷ xs) (Some b) ≡ run (idle ++ Renew test new ∷ xs) None
 from_the_gap = repeating.from_the_gap
 
--- what follows an erasure begins with nothing
-pub after_erasure : (xs ys : List Operation) (b : Option ObjectState) → run (xs ++ Erase ∷ ys) b ≡ run ys None
-after_erasure = repeating.after_erasure
-
 -- and where it makes nothing it ends with nothing
 pub erased : (xs ys : List Operation) (b : Option ObjectState) → list_any is_make ys ≡ false → run (xs ++ Erase ∷ ys) b ≡ None
 erased = repeating.erased
-
--- without a make nothing stays nothing
-pub run-none : (xs : List Operation) → list_any is_make xs ≡ false → run xs None ≡ None
-run-none = repeating.run-none

@@ -21,7 +21,7 @@ pub acted-tree : {S A : Type 0} (tree : Ghosts S) (P : Files → Type 0) (Q : St
 acted-tree tree P Q {now = now} {a = a} fits is acted =
     subst IsTree (sym acted.ran.reached) (along_end IsTree (tree.state a) acted.ran.steps now (along_trees P (tree.state a) acted.ran.steps now fits is acted.ran.along))
 
--- where an object is gone, more than stamps has changed
+-- where an object is gone, more than timestamps has changed
 pub gone_differs : (t v : Files) (path : Path) (now : ℕ) → IsPresent t path → places v ≡ gone now path (places t) → Differ t v
 gone_differs t v path now present is = (path, λ e. true_not_false (is_some (option_map object_state (places v path))) (sym (ap is_some e) ∙ still (places t path) present) (ap (λ o. is_some (option_map object_state o)) (ap (λ (x : Places). x path) is ∙ gone-here now path (places t))))
   where

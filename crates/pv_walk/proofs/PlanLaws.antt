@@ -46,7 +46,7 @@ pub record Fills (subtree s : Subtree) (pieces : List Piece) (region : Path → 
   pub doable : AreDoable subtree s pieces
   pub fills : built pieces s ≡ (λ q. cond (region q) (subtree q) (s q))
 
--- the kind of what stands at a place
+-- the kind of the object at a place
 abbrev pub kind_in : Subtree → Path → Option Kind
 kind_in s q = option_map (λ (b : ObjectState). b.body.kind) (s q)
 
@@ -164,7 +164,7 @@ abbrev pub around : Path → List Piece → Option ObjectState → List Piece
 around r inner None = []
 around r inner (Some b) = Give r b.metadata ∷ (inner ++ Make r (what_of b.body) ∷ [])
 
--- those of what stands at and below a place, as far down as a number of names
+-- those of what is at and below a place, as far down as a number of names
 abbrev pub pieces_below : Subtree → (Path → List (List ℕ)) → ℕ → Path → List Piece
 pieces_below subtree names zero r = []
 pieces_below subtree names (suc k) r = around r (each_below (pieces_below subtree names k) r (names r)) (subtree r)

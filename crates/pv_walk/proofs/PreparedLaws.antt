@@ -26,10 +26,6 @@ among_first q paths = ap (λ o. is_eq o || is_among q paths) (path_cmp-refl q)
 pub among_others : (q path : Path) (paths : List Path) → same_path path q ≡ false → is_among q (path ∷ paths) ≡ true → is_among q paths ≡ true
 among_others q path paths other h = sym (ap (λ b. b || is_among q paths) (tied-same q path ∙ other)) ∙ h
 
-either : (a b c : Bool) → (a || b) ≡ true → (b ≡ true → c ≡ true) → (a || c) ≡ true
-either true b c h f = refl
-either false b c h f = f h
-
 -- ---- the prefixes of a path
 
 shifted : (name : List ℕ) (path : Path) (j m : ℕ)
@@ -216,7 +212,7 @@ module _ (now : ℕ) where
       by (inl e) = inl (later_among p q ps e)
       by (inr k) = more (with_parent_present t p q k)
 
-  -- what stands at a prepared path is a parent, or was there
+  -- the object at a prepared path is a parent, or was there
   pub prepared_present : (path : Path) (t : Places) (q : Path) → is_some (prepared now path t q) ≡ true → (is_among q (parents_of path) ≡ true) ⊎ (is_some (t q) ≡ true)
   prepared_present path t q h = elim (parents_present (parents_of path) (all_taken now (staging_names path) t) q h) [
     | inl e ↦ inl e

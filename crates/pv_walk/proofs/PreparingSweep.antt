@@ -108,7 +108,7 @@ module _ (now : ℕ) where
           ap (λ (x : Places). x (staging_of (n ∷ place))) is
           ∙ subst (λ (p : Path). all_taken now (staging_names path) (places t) p ≡ None) at (all_taken-gone (staging_names path) (places t) (length place) (omega (arith, length-staging_names path)))
 
--- ---- stamps aside, all without a staging name is as it was
+-- ---- timestamps aside, all without a staging name is as it was
 
 module _ (path q : Path) (plain : has_staging q ≡ false) where
   none_along : (k n : ℕ) → 1 ≤ k → k + n ≤ length path + 1 → list_any (λ p. is_prefix p q) (map staging_of (map (λ j. take j path) (range_with_len k n))) ≡ false
@@ -222,7 +222,7 @@ same_pass path plain t u same pass = λ place high there.
 -- ---- on the way
 
 module _ {S : Type 0} (tree : Ghosts S) (path : Path) where
-  -- stamps and staging names aside, sweeping is on the way of preparing
+  -- timestamps and staging names aside, sweeping is on the way of preparing
   pub swept_acted : {A : Type 0} {m now : ℕ} {a b : S} {r : Result A TreeFault}
       → Acted tree (Pruned (is_under_any (staging_names path)) (tree.state a)) (Removes (is_under_any (staging_names path))) m now a b r
       → Acted tree (Preparing path (tree.state a)) (IsPrepareStep path (tree.state a)) m now a b r

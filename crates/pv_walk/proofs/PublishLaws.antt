@@ -64,7 +64,7 @@ module _ (path : Path) (nonempty : path ≢ []) where
 
 -- ---- what makes way
 
--- away from a path all is as it was, but that its directory may have the stamps of a change
+-- away from a path all is as it was, but that its directory may have the timestamps of a change
 pub record IsCleared (now : ℕ) (path : Path) (t u : Places) : Type 0 where
   pub same : (q : Path) → is_prefix path q ≡ false → same_path (parent_of path) q ≡ false → u q ≡ t q
   pub kept : (q : Path) → is_prefix path q ≡ false → IsKept now (t q) (u q)

@@ -1,4 +1,4 @@
--- Laws of putting a new object over what stands at a path: it is made under its staging name, what stands at the path makes
+-- Laws of putting a new object over the object at a path: it is made under its staging name, the object at the path makes
 -- way, and what is staged comes there.
 use Rattle.std.specs.Prelude.{◌≡◌, ◌≢◌, ℕ, ◌+◌, ◌≤◌, Bool, true, false, cond, [], List, ◌∷◌, ◌++◌, length, filter, Option, Some, None, is_some, option_map, Result, Ok}
 use Rattle.std.proofs.Common.{refl, sym, ap, ◌∙◌, arith, append-nil, length-append, inl, inr, ◌⊎◌}
@@ -57,7 +57,7 @@ module _ (path : Path) (t : Files) (tree : IsTree t) (none : IsAbsentIn (places 
         | inr e ↦ omega (arith, ap (λ b. cond b (times q (fin.keys t)) 0) e)
       ]
 
--- ---- stamps aside, or not
+-- ---- timestamps aside, or not
 
 -- what a call that puts a new object leaves is the subtree of one object put there
 module _ (now : ℕ) (path : Path) (file : NewFile) (t : Places) where
@@ -90,7 +90,7 @@ module _ (now : ℕ) (path : Path) (file : NewFile) (t : Places) where
       by (Some []) e = rw e (over (Some (new_object file now)) _ (sym (here (rest_under-Some path q [] e ∙ append-nil path))))
       by (Some (name ∷ rest)) e = rw e (over None _ (sym (below (longer name rest (rest_under-Some path q (name ∷ rest) e)) (inside (ap is_some e)))))
 
--- ---- what is staged comes to its path
+-- ---- what is staged is renamed into place
 
 module _ (now : ℕ) (path : Path) (nonempty : path ≢ []) (file : NewFile) (t u : Files) (is : places u ≡ made now (staging_of path) (new_object file now) (places t)) where
   -- no more has to make way than stood at and below the path before
@@ -121,7 +121,7 @@ module _ (now : ℕ) (path : Path) (nonempty : path ≢ []) (file : NewFile) (t 
         ap (moved now (staging_of path) path) staged_single ∙ copy_moved now path nonempty (new_subtree file) t tree free
         ∙ (λ i q. put_single now path file (places t) q i)
 
-    -- while what stands there makes way, or the new object comes to its path
+    -- while the object there makes way, or the new object is renamed into place
     pub over_published : SameOutside (is_prefix (staging_of path)) t u → (w : Files) → Publishing now path u w → Replacing path (new_subtree file) t w
     over_published = copy_published now path nonempty (new_subtree file) t tree free u staged_single
 

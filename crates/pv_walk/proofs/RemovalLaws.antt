@@ -126,7 +126,7 @@ abbrev pub all_gone : ℕ → List Path → Places → Places
 all_gone now [] t = t
 all_gone now (p ∷ ps) t = gone now p (all_gone now ps t)
 
--- as it was, or with its stamps of a change
+-- as it was, or with its timestamps of a change
 abbrev pub IsKept : ℕ → Option Object → Option Object → Type 0
 IsKept now old new = (new ≡ old) ⊎ (new ≡ option_map (modified now) old)
 

@@ -24,7 +24,7 @@ use Rattle.pv_walk.proofs.RemovalLaws.{kept-object_state, gone-here, gone-other,
 use Rattle.pv_walk.proofs.Outcomes.{gone_differs}
 use Rattle.pv_walk.proofs.SweepLaws.{pruned_then, pruned-none, pruned-wider, below_prefix}
 
--- one object gone, or not: all else is as it was, stamps aside
+-- one object gone, or not: all else is as it was, timestamps aside
 pub may_prune : (now : ℕ) (path : Path) (t u : Files) → MayHaveGone now path t u → Pruned (same_path path) t u
 may_prune now path t u (inl same) = subst (Pruned (same_path path) t) (sym same) (pruned-none (same_path path) t)
 may_prune now path t u (inr is) = record {
@@ -64,7 +64,7 @@ widened tree path {m = m} {a = a} n le acted =
 
 -- ---- the step that takes away one object
 
--- the test of what stands at a path is whether it is a directory
+-- the test of the object at a path is whether it is a directory
 pub directory_decides : (kind : Option Kind) → IsTrue (option_map_or is_directory kind false) ↔ (kind ≡ Some Directory)
 directory_decides None = (λ h. cc, λ e. cc)
 directory_decides (Some Directory) = (λ h. refl, λ e. refl)

@@ -1,5 +1,5 @@
 -- Lists of operations that nothing is said against, done again.
-use Rattle.std.specs.Prelude.{◌≡◌, ℕ, Bool, true, false, ◌==◌, ◌&&◌, ◌||◌, not, List, [], ◌∷◌, ◌++◌, take, drop, Option, Some, None, option_map, ◌⊎◌, if◌then◌else◌}
+use Rattle.std.specs.Prelude.{◌≡◌, ℕ, Bool, true, false, ◌==◌, ◌&&◌, ◌||◌, not, List, [], ◌∷◌, ◌++◌, take, drop, Option, Some, None, ◌⊎◌, if◌then◌else◌}
 use Rattle.std.proofs.Common.{refl, sym, ap, subst, ◌∙◌, inl, inr, eq-eqb}
 use Rattle.std.specs.List.{list_any, list_all}
 use Rattle.std.specs.Str.{bytes_eq}
@@ -91,12 +91,6 @@ run-adjusted kind (Erase ∷ xs) e r b same = cc
 run-adjusted kind (Apply guard change ∷ xs) e r b same =
     ap (λ k. run xs (Some (if admits guard k then changed k change b else b))) same
     ∙ run-adjusted kind xs e r (adjusted kind (Apply guard change) b) ((keeps-adjusted kind (Apply guard change ∷ [])).same b ∙ same)
-
--- which keeps its kind
-pub kind_stays : (xs : List Operation) → list_any is_erasure xs ≡ false → list_any is_renewal xs ≡ false → (b : ObjectState) → option_map (λ (n : ObjectState). n.body.kind) (run xs (Some b)) ≡ Some b.body.kind
-kind_stays xs e r b =
-    ap (λ (o : Option ObjectState). option_map (λ (n : ObjectState). n.body.kind) o) (run-adjusted b.body.kind xs e r b refl)
-    ∙ ap (λ (k : Kind). Some k) ((keeps-adjusted b.body.kind xs).same b)
 
 -- what is done to an object by changes alone, done twice
 module _ (xs : List Operation) (erase : list_any is_erasure xs ≡ false) (renew : list_any is_renewal xs ≡ false) (append : has_append xs ≡ false)

@@ -17,7 +17,7 @@ use Rattle.pv_walk.proofs.PuttingLaws.{none_below}
 use Rattle.pv_walk.proofs.RemovalLaws.{below_parts, not_below_itself}
 use Rattle.pv_walk.proofs.SweepLaws.{below_prefix, pruned-none, pruned-wider}
 
--- ---- stamps aside
+-- ---- timestamps aside
 
 kind_object_state : (o : Option Object) → kind_of (option_map object_state o) ≡ kind_of o
 kind_object_state None = refl

@@ -203,7 +203,7 @@ module _ (path : Path) (nonempty : path ≢ []) (now : ℕ) (t : Files) (room : 
 
 -- ---- stages
 
--- the changes of metadata do not look at stamps
+-- the changes of metadata do not look at timestamps
 first_object_state : (k : ℕ) (new : Metadata) (o : Object) → object_state (with_first_changes k new o) ≡ with_first_changes k new (object_state o)
 first_object_state zero new o = refl
 first_object_state (suc zero) new o = refl
@@ -217,7 +217,7 @@ first_object_state (suc (suc (suc (suc (suc k))))) new o =
 first_alike : (k : ℕ) (new : Metadata) (a b : Object) → object_state_of a ≡ object_state_of b → object_state_of (with_first_changes k new a) ≡ object_state_of (with_first_changes k new b)
 first_alike k new a b e = ap object_state_of (first_object_state k new a ∙ ap (with_first_changes k new) (object_state-same a b e) ∙ sym (first_object_state k new b))
 
--- what stands at a path while it gets metadata
+-- the object at a path while it gets metadata
 metadata_here : (path : Path) (new : Metadata) (o : Object) (u v : Files) → places u path ≡ Some o → (h : SettingMetadata path new u v) → object_states_of (places v) path ≡ Some (object_state_of (with_first_changes h.0 new o))
 metadata_here path new o u v there h =
     object_states_of-same (places v) (on_at path (with_first_changes h.0 new) (places u)) path (h.1 path)

@@ -1,4 +1,4 @@
--- Laws of stages: what is made under a staging name stands there in stages alone, and so it does while it comes to its path.
+-- Laws of stages: what is made under a staging name stands there in stages alone, and so it does while it is renamed into place.
 use Rattle.std.specs.Prelude.{◌≡◌, ◌≢◌, ℕ, ◌+◌, ◌≤◌, [], ◌∷◌, ◌++◌, Option, Some, None, option_map, Result, Ok}
 use Rattle.std.proofs.Common.{refl, sym, ap, subst, ◌∙◌, inl, inr, arith}
 use Rattle.pv_path.specs.Paths.{Path, staging_of}
@@ -47,7 +47,7 @@ staged_start path s t tree free = record {
 }
 
 module _ (path : Path) (nonempty : path ≢ []) (s : Subtree) where
-  -- so it is while what stands at the path makes way, and then nothing is left
+  -- so it is while the object at the path makes way, and then nothing is left
   pub published_stages : (now : ℕ) (u : Files) → InStages (staging_of path) s u → (w : Files) → Publishing now path u w → InStages (staging_of path) s w
   published_stages now u h w (inl c) = record {
     each = λ rest. at_same (h.each rest) (standing_at (staging_of path) w rest) (same rest);
@@ -64,7 +64,7 @@ module _ (path : Path) (nonempty : path ≢ []) (s : Subtree) where
         → Acted tree (InStages (staging_of path) s) Puts n now a b r
     stages_staged {m = m} n le before = acted_weaken tree (Staging (staging_of path) s (tree.state a)) (InStages (staging_of path) s) Gives Puts m n (λ u h. h.stages) first le before
 
-    -- what is staged comes to its path
+    -- what is staged is renamed into place
     pub stages_published : {A B : Type 0} {m n : ℕ} {c : S} {x : A} {r : Result B TreeFault} → Moves tree → ((step : Step) → IsPublishing path step → Puts step) → (most : ℕ) → m + n ≤ most
         → Acted tree (Staging (staging_of path) s (tree.state a)) Gives m now a b (Ok x) → Acted tree (Publishing now path (tree.state b)) (IsPublishing path) n now b c r
         → Acted tree (InStages (staging_of path) s) Puts most now a c r

@@ -73,7 +73,7 @@ any_child goes q r (n ∷ names) some h = elim (same_or_not (q ++ n ∷ []) r) [
 
 -- ---- some of the paths go
 
--- the steps that take away what stands at some paths, the last one first
+-- the steps that take away the objects at some paths, the last one first
 abbrev pub steps_of : Files → List Path → List Step
 steps_of files paths = reverse (map (removal_at files) paths)
 
@@ -108,7 +108,7 @@ module _ (now : ℕ) (files : Files) where
       after_removal now p files before u last ∙ ap (gone now p) (all_removed paths before refl)
 
   module _ (inside : Path → Bool) where
-    -- stamps aside, only objects at the paths are gone
+    -- timestamps aside, only objects at the paths are gone
     removed_pruned : (paths : List Path) (u : Files) → ((q : Path) → is_one_of paths q ≡ true → inside q ≡ true) → places u ≡ all_gone now paths (places files) → Pruned inside files u
     removed_pruned paths u within is =
         let at : (q : Path) → places u q ≡ all_gone now paths (places files) q = λ q. ap (λ (t : Places). t q) is in

@@ -98,7 +98,7 @@ pub goes_from : (test : Path → Bool) (files : Files) (path : Path) → is_some
 goes_from test files path there below_root all =
     and_from (is_some (places files path) && not (length path == 0)) (all_at test files path) (and_from (is_some (places files path)) (not (length path == 0)) there below_root) all
 
--- tests that agree on what stands there decide alike what goes whole
+-- tests that agree on the object there decide alike what goes whole
 pub goes_whole-same : (f g : Path → Bool) (files : Files) → ((q : Path) → is_some (places files q) ≡ true → f q ≡ g q) → (path : Path) → goes_whole f files path ≡ goes_whole g files path
 goes_whole-same f g files same path =
     ap (λ b. (is_some (places files path) && not (length path == 0)) && b)
@@ -113,7 +113,7 @@ push_length (m ∷ path) n = more (length (path ++ n ∷ []))
     more : (k : ℕ) → (suc k == 0) ≡ false
     more k = grind (arith, nat_tests)
 
--- what stands at a path goes whole where it passes, and each child goes whole
+-- the object at a path goes whole where it passes, and each child goes whole
 pub goes_by_children : (test : Path → Bool) (files : Files) → IsTree files → (path : Path) → is_some (places files path) ≡ true → test path ≡ true
     → goes_whole test files path ≡ (not (length path == 0) && list_all (λ n. goes_whole test files (path ++ n ∷ [])) (names_below files path))
 goes_by_children test files tree path there passes =

@@ -29,7 +29,7 @@ pub record HasMode (new : Metadata) (node : Node) : Type 0 where
   pub special : node.special ≡ new.special
   pub base : SameBase node.acl.access new.acl.access
 
--- on the way of one change, stamps aside: it is not done yet, or done
+-- on the way of one change, timestamps aside: it is not done yet, or done
 abbrev pub Changing : Path → (Object → Object) → Files → Files → Type 0
 Changing path change t u =
     ((q : Path) → object_states (places u) q ≡ object_states (places t) q) ⊎ ((q : Path) → object_states (places u) q ≡ object_states (on_at path change (places t)) q)
@@ -51,6 +51,6 @@ GivesAttrs path new t step = Gives (λ o. o.node.attrs) new.attrs (SetAttrs path
 abbrev pub GivesLetters : Path → Metadata → Files → Step → Type 0
 GivesLetters path new t step = Gives (λ o. o.node.letters) new.letters (SetLetters path new.letters) path t step
 
--- an object with the owner, the mode and the ACL of metadata, stamps left as they are
+-- an object with the owner, the mode and the ACL of metadata, timestamps left as they are
 abbrev pub with_access_of : Metadata → Object → Object
 with_access_of new o = record o { node = record o.node { uid = new.uid; gid = new.gid; special = new.special; acl = new.acl } }

@@ -1,4 +1,4 @@
--- Copies: what stands at and below one path comes once more to another, each object with all it has but its stamps
+-- Copies: what is at and below one path comes once more to another, each object with all it has but its timestamps
 -- (tmpfiles.d(5), C; cp(1), -a).
 use Rattle.std.specs.Prelude.{◌≡◌, ◌≢◌, ◌⊎◌, ℕ, ◌≤◌, false, [], ◌∷◌, ◌++◌, length, filter, filter_map, Option, Some, None, IfSome, is_some, option_map, unwrap_or, if◌then◌else◌}
 use Rattle.std.specs.FinMap as fin
@@ -27,7 +27,7 @@ pub record IsTopNode (top : TopNode) : Type 0 where
   pub uid : IfSome top.uid IsId
   pub gid : IfSome top.gid IsId
 
--- an object with this mode, where one is given; a link has none
+-- an object with this mode, if one is given; a link has none
 abbrev pub moded : Option ℕ → ObjectState → ObjectState
 moded None b = b
 moded (Some mode) b = if is_link b.body.kind then b else record b { metadata = with_mode b.body.kind mode false b.metadata }
@@ -45,7 +45,7 @@ abbrev pub single : ObjectState → Subtree
 single b [] = Some b
 single b (name ∷ rest) = None
 
--- the copy of what stands at and below a path, with another top; staging names are left out
+-- the copy of what is at and below a path, with another top; staging names are left out
 abbrev pub copy_from : (ObjectState → ObjectState) → Path → (Path → Option ObjectState) → Subtree
 copy_from top source at [] = option_map top (at source)
 copy_from top source at (name ∷ rest) = if has_staging (name ∷ rest) then None else at (source ++ name ∷ rest)
@@ -54,9 +54,9 @@ copy_from top source at (name ∷ rest) = if has_staging (name ∷ rest) then No
 abbrev pub copied_count : Subtree → Path → Files → ℕ
 copied_count subtree source t = length (filter (λ rest. is_some (subtree rest)) (filter_map (rest_under source) (fin.keys t)))
 
--- ---- what it leaves, stamps included
+-- ---- what it leaves, timestamps included
 
--- an object with these stamps
+-- an object with these timestamps
 abbrev pub with_stamps : Stamps → ObjectState → Object
 with_stamps stamps b = record {
   node = record {
@@ -74,11 +74,11 @@ with_stamps stamps b = record {
   payload = b.body.payload;
 }
 
--- a new object, all four stamps now
+-- a new object, all four timestamps now
 abbrev pub object_of : ℕ → ObjectState → Object
 object_of now b = with_stamps (stamped now) b
 
--- what stands at a path that has this rest below the place of a subtree of new objects; the old object elsewhere
+-- the object at a path that has this rest below the place of a subtree of new objects; the old object elsewhere
 abbrev pub standing : ℕ → Subtree → Option Object → Option Path → Option Object
 standing now subtree old None = old
 standing now subtree old (Some rest) = option_map (object_of now) (subtree rest)
@@ -89,7 +89,7 @@ with_subtree now path subtree t = touched now path (λ q. standing now subtree (
 
 -- ---- single steps
 
--- a step makes an object without stamps at a path, of its kind, with its target or numbers, or gives it a part of what it has
+-- a step makes an object without timestamps at a path, of its kind, with its target or numbers, or gives it a part of what it has
 abbrev pub GivesObjectState : Path → ObjectState → Step → Type 0
 GivesObjectState path b (MakeDir at) = (at ≡ path) × (b.body.kind ≡ Directory)
 GivesObjectState path b (MakeFile at) = (at ≡ path) × (b.body.kind ≡ File)
@@ -104,7 +104,7 @@ GivesObjectState path b (SetAttrs at attrs) = (at ≡ path) × (attrs ≡ b.meta
 GivesObjectState path b (SetLetters at letters) = (at ≡ path) × (letters ≡ b.metadata.letters)
 GivesObjectState path b step = ⊥
 
--- an ACL, extended attributes and letters are given only where owners and mode do not leave them
+-- an ACL, extended attributes and letters are given only if owners and mode do not leave them
 abbrev pub IsNeeded : ObjectState → Step → Type 0
 IsNeeded b (SetAcl at acl) = acl_of_mode (metadata_mode b.metadata) ≢ b.metadata.acl
 IsNeeded b (SetAttrs at attrs) = [] ≢ b.metadata.attrs

@@ -1,4 +1,4 @@
--- Edits of a tree, stamps included, and what a run may have left on the way to one (this project's own).
+-- Edits of a tree, timestamps included, and what a run may have left on the way to one (this project's own).
 use Rattle.std.specs.Prelude.{◌≡◌, ◌⊎◌, ℕ, Bool, true, false, List, [], ◌∷◌, length, filter, None, is_some, fold, if◌then◌else◌}
 use Rattle.std.specs.FinMap as fin
 use Rattle.pv_path.specs.Paths.{Path, is_prefix, same_path}
@@ -11,7 +11,7 @@ use Rattle.pv_steps.specs.Same.{object_states}
 abbrev pub cut : Path → Places → Places
 cut path t = λ q. if is_prefix path q then None else t q
 
--- what stands at a path is taken away with all below it; its directory has lost a child
+-- the object at a path is taken away with all below it; its directory has lost a child
 abbrev pub taken : ℕ → Path → Places → Places
 taken now path t = if is_some (t path) then touched now path (cut path t) else t
 
@@ -37,11 +37,11 @@ count_at files path = length (filter (is_prefix path) (fin.keys files))
 
 -- ---- on the way
 
--- stamps aside, nothing has changed but that objects in a region may be gone
+-- timestamps aside, nothing has changed but that objects in a region may be gone
 pub record Pruned (inside : Path → Bool) (t u : Files) : Type 0 where
   pub outside : (q : Path) → inside q ≡ false → object_states (places u) q ≡ object_states (places t) q
   pub within : (q : Path) → inside q ≡ true → IsAbsentIn (places u) q ⊎ (object_states (places u) q ≡ object_states (places t) q)
 
--- stamps aside, nothing has changed outside a region
+-- timestamps aside, nothing has changed outside a region
 abbrev pub SameOutside : (Path → Bool) → Files → Files → Type 0
 SameOutside inside t u = (q : Path) → inside q ≡ false → object_states (places u) q ≡ object_states (places t) q

@@ -37,7 +37,7 @@ made_mode new.Directory = 0o700
 made_mode (new.Link target) = 0o777
 made_mode kind = 0o600
 
--- what it holds then: the target of a link, else nothing
+-- what it holds then: the target of a link, otherwise nothing
 abbrev pub first_payload : NewKind → List ℕ
 first_payload (new.Link target) = target
 first_payload kind = []
@@ -61,7 +61,7 @@ new_metadata file = record {
   letters = 0;
 }
 
--- an object without stamps as its Make step leaves it, or with all it holds
+-- an object without timestamps as its Make step leaves it, or with all it holds
 abbrev pub IsBegun : NewKind → ObjectState → Type 0
 IsBegun what there = (there ≡ object_state_of (first_object what 0)) ⊎ (there ≡ object_state_of (held_object what 0))
 
@@ -69,7 +69,7 @@ IsBegun what there = (there ≡ object_state_of (first_object what 0)) ⊎ (ther
 abbrev pub BeginsNew : Path → NewKind → Step → Type 0
 BeginsNew path what step = (step ≡ make_step path what) ⊎ ((content : List ℕ) × ((step ≡ Write path content) × (what ≡ new.File content)))
 
--- on the way of making it where nothing stood: nothing has changed elsewhere, stamps aside, and it is not there yet, or only begun
+-- on the way of making it where nothing stood: nothing has changed elsewhere, timestamps aside, and it is not there yet, or only begun
 pub record Beginning (path : Path) (what : NewKind) (t u : Files) : Type 0 where
   pub outside : SameOutside (same_path path) t u
   pub here : (object_states_of (places u) path ≡ None) ⊎ ((there : ObjectState) × ((object_states_of (places u) path ≡ Some there) × IsBegun what there))

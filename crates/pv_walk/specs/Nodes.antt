@@ -1,4 +1,4 @@
--- Objects without their stamps, and tests on what they are (inode(7)).
+-- Objects without their timestamps, and tests on what they are (inode(7)).
 use Rattle.std.specs.Prelude.{◌==◌, Bool, true, false, not, ◌&&◌, ◌||◌, Option, option_map}
 use Rattle.std.specs.Str.{bytes_eq}
 use Rattle.pv_path.specs.Paths.{Path}
@@ -9,14 +9,14 @@ use Rattle.pv_steps.specs.declared.object.Object.{Object}
 use Rattle.pv_walk.specs.declared.object_state.Body.{Body}
 use Rattle.pv_walk.specs.declared.object_state.ObjectState.{ObjectState}
 
--- an object without its stamps
+-- an object without its timestamps
 abbrev pub object_state_of : Object → ObjectState
 object_state_of o = record {
   body = record { kind = o.node.kind; payload = o.payload; major = o.node.major; minor = o.node.minor };
   metadata = record { uid = o.node.uid; gid = o.node.gid; special = o.node.special; acl = o.node.acl; attrs = o.node.attrs; letters = o.node.letters };
 }
 
--- what stands at each path, without stamps
+-- the object at each path, without timestamps
 abbrev pub object_states_of : Places → Path → Option ObjectState
 object_states_of t = λ path. option_map object_state_of (t path)
 

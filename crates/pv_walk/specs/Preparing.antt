@@ -15,7 +15,7 @@ use Rattle.pv_walk.specs.declared.new_file.NewKind.TheVariants as new
 use Rattle.pv_walk.specs.Staging.{prefixes, staging_names, is_under_any, new_object}
 use Rattle.pv_walk.specs.Putting.{IsPutStep}
 
--- ---- what it leaves, stamps included
+-- ---- what it leaves, timestamps included
 
 -- the places above a path but the root, from the root on
 abbrev pub parents_of : Path → List Path
@@ -55,7 +55,7 @@ CanPass path t = (place : Path) → IsAbove place path → IsPresent t place →
 abbrev pub IsSwept : Path → Files → Type 0
 IsSwept path t = (place : Path) → place ≢ [] → is_prefix place path ≡ true → IsAbsentIn (places t) (staging_of place)
 
--- ---- on the way, stamps and staging names aside
+-- ---- on the way, timestamps and staging names aside
 
 -- at one path: what stood there, or a parent above the path where nothing stood
 pub data IsPreparing (path q : Path) (old new : Option Object) : Type 0 where

@@ -1,4 +1,4 @@
--- Putting a new object at a path: what it may have left on its way, stamps and staging names aside (rename(2)).
+-- Putting a new object at a path: what it may have left on its way, timestamps and staging names aside (rename(2)).
 use Rattle.std.specs.Prelude.{◌≡◌, ◌⊎◌, ℕ, false, Option, Some, None}
 use Rattle.pv_path.specs.Paths.{Path, has_staging, staging_of}
 use Rattle.pv_steps.specs.declared.object.Object.{Object}

@@ -23,7 +23,7 @@ is_below path q = is_prefix path q && not (same_path path q)
 abbrev pub removal : Bool → Path → Step
 removal directory path = if directory then RemoveDir path else Unlink path
 
--- the step that takes away what stands at a path in a tree
+-- the step that takes away the object at a path in a tree
 abbrev pub removal_at : Files → Path → Step
 removal_at files path = removal (option_map_or is_directory (kind_of (places files path)) false) path
 
@@ -50,14 +50,14 @@ without goes change files = λ q.
     else if loses_child goes files q then option_map change (places files q)
     else places files q
 
--- stamps aside, objects at and below a path may be gone, but not where one Rename from the staging name can replace them;
+-- timestamps aside, objects at and below a path may be gone, but not where one Rename from the staging name can replace them;
 -- a directory in the place of which a directory comes stays, whatever is in it, until that Rename
 pub record Clearing (path : Path) (t u : Files) : Type 0 where
   pub pruned : Pruned (is_prefix path) t u
   pub stays : IsKind Directory t (staging_of path) → IsKind Directory t path → object_states (places u) path ≡ object_states (places t) path
   pub needed : Yields (places t) (staging_of path) path → (q : Path) → object_states (places u) q ≡ object_states (places t) q
 
--- on the way, stamps aside: what stands at the path makes way, or what was staged for it has come to it
+-- on the way, timestamps aside: the object at the path makes way, or what was staged for it has come to it
 abbrev pub Publishing : ℕ → Path → Files → Files → Type 0
 Publishing now path t u =
     Clearing path t u ⊎ ((q : Path) → object_states (places u) q ≡ object_states (moved now (staging_of path) path (places t)) q)

@@ -12,11 +12,11 @@ use Rattle.pv_walk.specs.declared.new_file.NewFile.{NewFile}
 use Rattle.pv_walk.specs.Copying.{Subtree, single, with_subtree}
 use Rattle.pv_walk.specs.Staging.{new_object}
 
--- a subtree stands whole at the staging name of a path, stamps aside
+-- a subtree stands whole at the staging name of a path, timestamps aside
 abbrev pub IsStaged : Path → Subtree → Files → Type 0
 IsStaged path subtree u = (rest : Path) → object_states_of (places u) (staging_of path ++ rest) ≡ subtree rest
 
--- once it stands there, one Rename can put it in the place of what stands at the path
+-- once it stands there, one Rename can put it in the place of the object at the path
 abbrev pub CanReplace : Path → Subtree → Files → Type 0
 CanReplace path subtree t = Yields (with_subtree 0 (staging_of path) subtree (places t)) (staging_of path) path
 
@@ -40,6 +40,6 @@ pub data Replacing (path : Path) (subtree : Subtree) (t u : Files) : Type 0 wher
   making_way : IsMakingWay path subtree t u → Replacing path subtree t u
   come : ((q : Path) → has_staging q ≡ false → object_states (places u) q ≡ object_states (with_subtree 0 path subtree (places t)) q) → Replacing path subtree t u
 
--- a new object, without its stamps and with nothing below it
+-- a new object, without its timestamps and with nothing below it
 abbrev pub new_subtree : NewFile → Subtree
 new_subtree file = single (object_state_of (new_object file 0))

@@ -1,4 +1,4 @@
--- The metadata of an object: its owner, mode, ACL, extended attributes and letters, each set only where that changes
+-- The metadata of an object: its owner, mode, ACL, extended attributes and letters, each set only if that changes
 -- something (chown(2), chmod(2), acl(5), xattr(7), chattr(1)).
 use Rattle.std.specs.Prelude.{◌≡◌, ◌≢◌, ◌⊎◌, ℕ, ◌≤◌, true, List, [], ◌∷◌, take, fold, Some}
 use Rattle.pv_path.specs.Paths.{Path}
@@ -29,27 +29,27 @@ pub record IsMetadata (kind : Kind) (new : Metadata) : Type 0 where
 abbrev pub metadata_mode : Metadata → ℕ
 metadata_mode new = mode_of new.special new.acl.access
 
--- an object with the owners of metadata, stamps left as they are
+-- an object with the owners of metadata, timestamps left as they are
 abbrev pub with_owner_of : Metadata → Object → Object
 with_owner_of new o = record o { node = record o.node { uid = new.uid; gid = new.gid } }
 
--- an object with the mode of metadata, stamps left as they are
+-- an object with the mode of metadata, timestamps left as they are
 abbrev pub with_mode_of : Metadata → Object → Object
 with_mode_of new o = record o { node = record o.node { special = new.special; acl = record o.node.acl { access = parts.with_mode (metadata_mode new) o.node.acl.access } } }
 
--- an object with the ACL of metadata, stamps left as they are
+-- an object with the ACL of metadata, timestamps left as they are
 abbrev pub with_acl_of : Metadata → Object → Object
 with_acl_of new o = record o { node = record o.node { acl = new.acl } }
 
--- an object with the extended attributes of metadata, stamps left as they are
+-- an object with the extended attributes of metadata, timestamps left as they are
 abbrev pub with_attrs_of : Metadata → Object → Object
 with_attrs_of new o = record o { node = record o.node { attrs = new.attrs } }
 
--- an object with the letters of metadata, stamps left as they are
+-- an object with the letters of metadata, timestamps left as they are
 abbrev pub with_letters_of : Metadata → Object → Object
 with_letters_of new o = record o { node = record o.node { letters = new.letters } }
 
--- an object in its new metadata, stamps left as they are
+-- an object in its new metadata, timestamps left as they are
 abbrev pub with_metadata : Metadata → Object → Object
 with_metadata new o = record o { node = record o.node { uid = new.uid; gid = new.gid; special = new.special; acl = new.acl; attrs = new.attrs; letters = new.letters } }
 
@@ -73,7 +73,7 @@ IsKeptBy change path t = (o : Object) → places t path ≡ Some o → change o 
 
 -- ---- what setting metadata does
 
--- on the way, stamps aside: the object at the path has the first of the changes, and nothing else has changed
+-- on the way, timestamps aside: the object at the path has the first of the changes, and nothing else has changed
 abbrev pub SettingMetadata : Path → Metadata → Files → Files → Type 0
 SettingMetadata path new t u = (k : ℕ) × ((q : Path) → object_states (places u) q ≡ object_states (on_at path (with_first_changes k new) (places t)) q)
 
@@ -85,14 +85,14 @@ Lacks part new path t = (o : Object) → places t path ≡ Some o → part o ≢
 abbrev pub NeedsAcl : Path → Metadata → Files → Type 0
 NeedsAcl path new t = Lacks (λ o. (with_first_changes 2 new o).node.acl) new.acl path t
 
--- a step gives the object at the path what the metadata has, the ACL only where owner and mode do not give it,
--- extended attributes and letters only where it has others
+-- a step gives the object at the path what the metadata has, the ACL only if owner and mode do not give it,
+-- extended attributes and letters only if it has others
 abbrev pub GivesMetadata : Path → Metadata → Files → Step → Type 0
 GivesMetadata path new t step =
     (step ≡ SetOwner path new.uid new.gid) ⊎ ((step ≡ SetMode path (metadata_mode new)) ⊎ (((step ≡ SetAcl path new.acl) × NeedsAcl path new t)
     ⊎ (((step ≡ SetAttrs path new.attrs) × Lacks (λ o. o.node.attrs) new.attrs path t) ⊎ ((step ≡ SetLetters path new.letters) × Lacks (λ o. o.node.letters) new.letters path t))))
 
--- an object after a change: the same object where the change changes nothing, else its change stamp is now
+-- an object after a change: the same object where the change changes nothing, otherwise its change stamp is now
 abbrev pub IsChanged : (Object → Object) → ℕ → Object → Object → Type 0
 IsChanged change now old o =
     ((change old ≡ old) × (o ≡ old)) ⊎ ((change old ≢ old) × (o ≡ changed now (change old)))

@@ -14,7 +14,7 @@ use Rattle.pv_walk.specs.Copying.{Subtree}
 use Rattle.pv_walk.specs.Making.{IsBegun, first_object, held_object}
 use Rattle.pv_walk.specs.Pieces.{what_of, IsFilledBelow}
 
--- a stage of an object, stamps aside: it is only begun, or has all it holds and the first of the changes of its
+-- a stage of an object, timestamps aside: it is only begun, or has all it holds and the first of the changes of its
 -- metadata
 pub data IsStage (object there : ObjectState) : Type 0 where
   begun : IsBegun (what_of object.body) there → IsStage object there
@@ -25,7 +25,7 @@ pub data IsAtStage (wanted there : Option ObjectState) : Type 0 where
   none : there ≡ None → IsAtStage wanted there
   stage : (object found : ObjectState) → wanted ≡ Some object → there ≡ Some found → IsStage object found → IsAtStage wanted there
 
--- what stands at and below a path, by what comes after it
+-- what is at and below a path, by what comes after it
 abbrev pub standing_at : Path → Files → Subtree
 standing_at path u = λ rest. object_states_of (places u) (path ++ rest)
 
@@ -44,7 +44,7 @@ pub record InStages (path : Path) (subtree : Subtree) (u : Files) : Type 0 where
   pub each : (rest : Path) → IsAtStage (subtree rest) (standing_at path u rest)
   pub filled : AreFilledFirst subtree (standing_at path u)
 
--- on the way of making a subtree at a path: nothing has changed elsewhere, stamps aside, and its stages stand there
+-- on the way of making a subtree at a path: nothing has changed elsewhere, timestamps aside, and its stages stand there
 pub record Staging (path : Path) (subtree : Subtree) (t u : Files) : Type 0 where
   pub outside : SameOutside (is_prefix path) t u
   pub stages : InStages path subtree u

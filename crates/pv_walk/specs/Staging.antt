@@ -1,4 +1,4 @@
--- Staging: what is made under a staging name before it comes to its path (rename(2)).
+-- Staging: what is made under a staging name before it is renamed into place (rename(2)).
 use Rattle.std.specs.Prelude.{◌≡◌, ℕ, ◌≤◌, Bool, true, List, [], map, length, take, sum, nat_le}
 use Rattle.std.specs.List.{list_all, list_any, range_with_len}
 use Rattle.pv_path.specs.Paths.{Path, is_prefix, staging_of}
@@ -47,18 +47,18 @@ new_kind (new.Link target) = Link
 new_kind new.Fifo = Fifo
 new_kind (new.Device block major minor) = device_kind block
 
--- the content of a file, the target of a link, else no bytes
+-- the content of a file, the target of a link, otherwise no bytes
 abbrev pub new_payload : NewKind → List ℕ
 new_payload (new.File content) = content
 new_payload (new.Link target) = target
 new_payload kind = []
 
--- a device's major number, else 0
+-- a device's major number, otherwise 0
 abbrev pub new_major : NewKind → ℕ
 new_major (new.Device block major minor) = major
 new_major kind = 0
 
--- a device's minor number, else 0
+-- a device's minor number, otherwise 0
 abbrev pub new_minor : NewKind → ℕ
 new_minor (new.Device block major minor) = minor
 new_minor kind = 0
@@ -79,7 +79,7 @@ pub record IsNewFile (file : NewFile) : Type 0 where
   pub owner : IsId file.uid × IsId file.gid
   pub target : HasTarget file.what
 
--- the new object, all four stamps now
+-- the new object, all four timestamps now
 abbrev pub new_object : NewFile → ℕ → Object
 new_object file now =
     let o = fresh (new_kind file.what) (new_mode file.what file.mode) (new_payload file.what) (new_major file.what) (new_minor file.what) now in

@@ -19,7 +19,7 @@ abbrev pub outcome : Option (ℕ × Why) → Option ℕ → Walked
 outcome (Some place) absent = Refused place.0 place.1
 outcome None absent = unrefused absent
 
--- the walk along a path whose last place, where it is absent, would have the owner `last`
+-- the walk along a path whose last place, if it is absent, would have the owner `last`
 abbrev pub walked : Places → Path → ℕ → Walked
 walked t path last = outcome (refusal t path last) (first_absent t path (range_with_len 0 (length path + 1)))
 

@@ -20,18 +20,19 @@ use std::alloc::Global;
 /// What the top of a copy gets in the place of what is copied.
 #[derive(Clone, Copy)]
 pub struct TopNode {
-    /// The mode, at most 07777, where one is given; not used for a link.
+    /// The mode, at most 07777, if one is given; not used for a link.
     pub mode: Option<u16>,
-    /// The owner, at most 4294967294, where one is given.
+    /// The owner, at most 4294967294, if one is given.
     pub uid: Option<u32>,
-    /// The owning group, at most 4294967294, where one is given.
+    /// The owning group, at most 4294967294, if one is given.
     pub gid: Option<u32>,
 }
 
-/// Makes a copy of what stands at and below a source under the staging name of a path, staging names left out: each
-/// object with all it has, all four timestamps now, and the top with what it gets. A directory gets its owners and its
-/// mode once all below it is there. What there is to copy is listed before the first step. After a fault some of the
-/// steps may be done; nothing but the staging name and what is below it has changed.
+/// Makes a copy of the object at a source, with all below it, under the staging name of a path. Staging names are not
+/// copied. Each object has all that it has at the source, and all four timestamps now; the top gets the owners and the
+/// mode that it is given. A directory gets its owners and its mode once all below it is there. What there is to copy is
+/// listed before the first step. After a fault some of the steps may be done; nothing except the staging name and what
+/// is below it has changed.
 pub fn stage_copy<T: Tree>(
     alloc: Global,
     tree: &mut T,
@@ -58,10 +59,11 @@ pub fn stage_copy<T: Tree>(
     stage_subtree(alloc, tree, path, pieces, now)
 }
 
-/// Puts a copy of what stands at and below a source at a path in a directory, in the place of all that stands at and
-/// below the path, staging names left out: each object with all it has, all four timestamps now, and the top with what
-/// it gets. It is made under the staging name, and comes to its path in one step with all below it, once what stands
-/// there has made way. What there is to copy is listed before the first step.
+/// Puts a copy of the object at a source, with all below it, at a path in a directory. It replaces the old object and
+/// all below it. Staging names are not copied. Each object has all that it has at the source, and all four timestamps
+/// now; the top gets the owners and the mode that it is given. The copy is made under the staging name. It is renamed
+/// into place in one step with all below it, once the old object is out of the way. What there is to copy is listed
+/// before the first step.
 pub fn copy_over<T: Tree>(
     alloc: Global,
     tree: &mut T,

@@ -18,15 +18,15 @@ ghost use Rattle.pv_walk.specs.Nodes.{object_state_of, object_states_of};
 ghost use Rattle.pv_walk.specs.Operations.{run, stays};
 ghost use Rattle.pv_walk.specs.Reasons.{is_adjusting, is_idle, is_make, is_erasure, has_late_make, IsRepeatable};
 
-/// Where nothing is said against a list of operations, doing the first of them and then all of them gives
-/// what doing all of them gives, whatever was there before.
+/// Suppose that nothing speaks against a list of operations. Doing the first of them and then all of them gives what
+/// doing all of them gives, whatever was there before.
 pub fn first_operations_are_absorbed()
     ensures { (operations : List OperationValue) (k : ℕ) (b : Option ObjectStateValue) → IsRepeatable operations
         → run operations (run (take k operations) b) ≡ run operations b }
 {}
 
-/// An object that fails the test of the first make, behind operations that change nothing, is as good as
-/// none: the list ends as from the gap that it leaves when it is taken away.
+/// An object counts as absent if it fails the test of the first make, after operations that change nothing. The list
+/// then ends as from the gap that it leaves when it is removed.
 pub fn a_first_renewal_absorbs_what_was_there()
     ensures { (idle rest : List OperationValue) (test : TestValue) (new b : ObjectStateValue)
         → list_all (is_adjusting is_idle) idle ≡ true → stays test new.body b.body ≡ false
@@ -52,8 +52,8 @@ pub fn a_mask_takes_nothing_from_its_own_mode()
     ensures { (mode : ℕ) → with_masked mode (part_of_mode mode) ≡ part_of_mode mode }
 {}
 
-/// Two objects are the same but for their timestamps exactly where they are the same without them; and so is what
-/// stands at a path of two trees.
+/// Two objects are the same without regard to timestamps exactly if they are the same without them. The same holds for
+/// the objects at a path of two trees.
 pub fn objects_are_compared_without_stamps()
     ensures same { (a b : ObjectValue) → object_state a ≡ object_state b → object_state_of a ≡ object_state_of b }
     ensures back { (a b : ObjectValue) → object_state_of a ≡ object_state_of b → object_state a ≡ object_state b }

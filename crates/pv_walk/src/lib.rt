@@ -1,6 +1,6 @@
-//! Work on one object of a tree and on what stands below it: walking along a path, staging (a new object is made under a
-//! staging name and is renamed to its path in one step), metadata (owner, mode, ACL, extended attributes and file
-//! attribute flags), removing, and finding.
+//! Work on one object of a tree and on all below it. It walks along a path, and stages: a new object is made under a
+//! staging name and renamed to its path in one step. It sets metadata (owner, mode, ACL, extended attributes and file
+//! attribute flags), removes and finds.
 #![tactic(auto)]
 
 mod copying;
@@ -33,7 +33,7 @@ pub use laws::{
     objects_are_compared_without_stamps, operations_do_the_same_in_parts,
 };
 pub use listed_below::{add_standing, at_and_below};
-pub use listing::topped;
+pub use listing::{object_state_at, topped};
 pub use mask::{masked_special, set_masked_base};
 pub use matching::matching_paths;
 pub use new_file::{NewFile, NewKind, new_object_state};
@@ -46,7 +46,7 @@ pub use put::{put_over, stage_file};
 pub use pv_steps::Why;
 pub use remove::{below, removal, remove_all, remove_below};
 pub use run::{admits, run_operations, stays};
-pub use setting_metadata::set_metadata;
+pub use setting_metadata::{is_same_base, set_metadata};
 pub use stage::put_held;
 pub use sweeping::sweep;
 pub use walking::{Walked, refusal_of, unsafe_component, walk};

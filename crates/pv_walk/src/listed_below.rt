@@ -10,9 +10,9 @@ use pv_path::TreePath;
 use pv_steps::{Tree, is_present};
 use std::alloc::{AllocError, Global};
 
-/// The paths of what stands at and below a path, in byte order: each before its children. It goes down by a list of what
-/// is still to do, and takes no more of the stack in a deep tree. What is listed is mostly in order already, backwards in a
-/// wide directory: the path itself comes before it once it is.
+/// The present paths at and below a path, in byte order, each before its children. It goes down by a list of what is
+/// still to do, and takes no more of the stack in a deep tree. What is listed is mostly in order already, backwards in
+/// a wide directory. The path itself comes before it once it is in order.
 pub fn at_and_below<T: Tree>(
     alloc: Global,
     tree: &T,

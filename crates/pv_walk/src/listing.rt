@@ -42,8 +42,8 @@ struct Listing {
     pieces: Vec<Piece>,
 }
 
-/// The pieces of work of a copy, the last one first: each object is made before its children, which come in byte order,
-/// each with all below it; then it gets its metadata.
+/// The pieces of work of a copy, the last one first. Each object is made before its children, which come in byte order,
+/// each with all below it. Then it gets its metadata.
 pub(crate) fn pieces_of<T: Tree>(
     alloc: Global,
     tree: &T,
@@ -233,8 +233,8 @@ pub fn topped(top: &TopNode, object: ObjectState) -> ObjectState
     new
 }
 
-/// What stands at a path, without its timestamps.
-fn object_state_at<T: Tree>(
+/// The object at a path, without its timestamps, or nothing where nothing does.
+pub fn object_state_at<T: Tree>(
     alloc: Global,
     tree: &T,
     path: &TreePath,
@@ -247,7 +247,7 @@ fn object_state_at<T: Tree>(
     }
 }
 
-/// The bytes of a file or the target of a link, else no bytes.
+/// The bytes of a file or the target of a link, otherwise no bytes.
 fn payload_of<'a, T: Tree>(tree: &'a T, path: &TreePath, node: &Node) -> &'a [u8]
     requires tree { IsTree (T.state tree.now) }
     requires node { Some node.now ≡ node_at (T.state tree.now) path.now }

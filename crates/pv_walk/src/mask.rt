@@ -6,8 +6,8 @@ ghost use Rattle.pv_walk.specs.Masks.{granted, with_masked, masked_special};
 use pv_acl::{Part, Perm};
 use pv_steps::{Kind, special_bits};
 
-/// Gives a part the base entries of a masked mode: read, write and execute are lost where the part grants
-/// them to nobody (tmpfiles.d(5), the prefix `~` of a mode). The named entries and the mask stay.
+/// Gives a part the base entries of a masked mode (tmpfiles.d(5), the prefix `~` of a mode). Read, write and execute
+/// are dropped if the part grants them to nobody. The named entries and the mask stay.
 pub fn set_masked_base(part: &mut Part, mode: u16)
     ensures { part.new ≡ with_masked mode part.old }
 {

@@ -60,7 +60,7 @@ impl NewKind {
         }
     }
 
-    /// The content of a file, the target of a link, else no bytes.
+    /// The content of a file, the target of a link, otherwise no bytes.
     pub fn payload(&self) -> &[u8]
         ensures { result.now ≡ new_payload self.now }
     {
@@ -71,7 +71,7 @@ impl NewKind {
         }
     }
 
-    /// The numbers of a device, else zeros.
+    /// The numbers of a device, otherwise zeros.
     pub fn numbers(&self) -> (u32, u32)
         ensures major { result.0 ≡ new_major self.now }
         ensures minor { result.1 ≡ new_minor self.now }

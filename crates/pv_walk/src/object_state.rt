@@ -13,11 +13,11 @@ use std::alloc::{AllocError, Global};
 pub struct Body {
     /// The kind of the object.
     pub kind: Kind,
-    /// The bytes of a file or the target of a link, else no bytes.
+    /// The bytes of a file or the target of a link, otherwise no bytes.
     pub payload: Bytes,
-    /// A device's major number, else 0.
+    /// A device's major number, otherwise 0.
     pub major: u32,
-    /// A device's minor number, else 0.
+    /// A device's minor number, otherwise 0.
     pub minor: u32,
 }
 

@@ -22,13 +22,13 @@ pub enum Change {
     Write(Bytes),
     /// These bytes come after those of a file.
     Append(Bytes),
-    /// The owner and the owning group, each where it is given.
+    /// The owner and the owning group, each if it is given.
     Owner { uid: Option<u32>, gid: Option<u32> },
     /// The mode; a masked one loses what the object grants to nobody.
     Mode { mode: u16, masked: bool },
     /// Entries of an ACL.
     Entries { line: AclLine, how: How },
-    /// Extended attributes of what is no link, each over one of the same name.
+    /// Extended attributes of an object that is not a link, each in place of one of the same name.
     Attrs(AttrList),
     /// Letters of a file or a directory.
     Letters { how: LetterHow, letters: LetterSet },

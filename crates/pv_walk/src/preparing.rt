@@ -16,8 +16,8 @@ use pv_path::TreePath;
 use pv_steps::{Tree, TreeFault, is_present};
 use std::alloc::Global;
 
-/// Makes ready for what is to come to a path: takes away what an earlier run has staged along the path, and puts
-/// a directory 0755 of root at each absent place above it. Each name of the path has at most 250 bytes.
+/// Prepares a path for a new object: removes what an earlier run has staged along the path, and makes a directory 0755
+/// of root at each absent ancestor. Each name of the path has at most 250 bytes.
 pub fn prepare<T: Tree>(
     alloc: Global,
     tree: &mut T,

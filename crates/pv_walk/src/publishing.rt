@@ -1,4 +1,4 @@
-//! What is staged comes to its path.
+//! Staged objects are renamed into place.
 ghost use Rattle.std.specs.Prelude.{◌≡◌, ◌≢◌, ◌+◌, [], true, OnOk};
 ghost use Rattle.pv_path.specs.Paths.{is_prefix, staging_of};
 ghost use Rattle.pv_steps.specs.Trees.{places, IsPresent, IsTree};
@@ -15,8 +15,8 @@ use pv_path::{TreePath, staging};
 use pv_steps::{Step, Tree, TreeFault, is_directory, is_present, try_step};
 use std::alloc::Global;
 
-/// Takes away what stands at a path where a Rename from its staging name cannot replace it: all
-/// below a directory, and the object itself unless both are directories or neither is.
+/// Removes what a Rename from the staging name cannot replace at a path. This is all below a directory, and the object
+/// itself unless both are directories or neither is.
 fn make_way<T: Tree>(
     alloc: Global,
     tree: &mut T,
@@ -64,9 +64,8 @@ fn rename<T: Tree>(tree: &mut T, stage: TreePath, path: TreePath, now: u64) -> R
     try_step(tree, step, now)
 }
 
-/// Brings what stands at the staging name of a path to the path, in one step, with all below it.
-/// What stood at the path is taken away before, as far as that step cannot replace it. Each name of
-/// the path has at most 250 bytes.
+/// Renames the object at the staging name of a path to the path, in one step, with all below it. The old object is
+/// removed before, as far as that step cannot replace it. Each name of the path has at most 250 bytes.
 pub fn publish<T: Tree>(
     alloc: Global,
     tree: &mut T,

@@ -20,9 +20,9 @@ use pv_path::TreePath;
 use pv_steps::{Tree, TreeFault};
 use std::alloc::{AllocError, Global};
 
-/// Puts a new object at a path in a directory, in the place of all that stands at and below the path: it is made under
-/// its staging name, gets all that it is to have there, and comes to its path in one step, once what stands there has
-/// made way.
+/// Puts a new object at a path in a directory, in place of the old object and all below it. It is made under its
+/// staging name, and gets all that it is to have there. It is renamed into place in one step, once the old object is
+/// out of the way.
 pub fn put_over<T: Tree>(
     alloc: Global,
     tree: &mut T,

@@ -14,7 +14,7 @@ use pv_path::{TreePath, child};
 use pv_steps::{Step, Tree, TreeFault, is_directory, try_all, try_step};
 use std::alloc::{AllocError, Global};
 
-/// Adds the paths of what stands in the directory at a path, in byte order; nothing where no
+/// Adds the paths of what stands in the directory at a path, in byte order; nothing if no
 /// directory is there.
 fn push_children<T: Tree>(
     alloc: Global,
@@ -53,7 +53,7 @@ pub fn below<T: Tree>(alloc: Global, tree: &T, path: &TreePath) -> Result<Vec<Tr
     Ok(listed)
 }
 
-/// Takes away what stands at a path and has nothing below it.
+/// Removes the object at a path, which has nothing below it.
 pub(crate) fn remove<T: Tree>(tree: &mut T, path: TreePath, now: u64) -> Result<(), TreeFault>
     requires present { IsPresent (T.state tree.old) path }
     requires empty { IsEmptyIn (places (T.state tree.old)) path }
@@ -67,7 +67,7 @@ pub(crate) fn remove<T: Tree>(tree: &mut T, path: TreePath, now: u64) -> Result<
     try_step(tree, step, now)
 }
 
-/// The step that takes away what stands at a path and has nothing below it (unlink(2), rmdir(2)). It takes no memory.
+/// The step that removes the object at a path, which has nothing below it (unlink(2), rmdir(2)). It takes no memory.
 pub fn removal<T: Tree>(tree: &T, path: TreePath) -> Step
     ensures { result ≡ removal_at (T.state tree.now) path }
 {
@@ -78,7 +78,7 @@ pub fn removal<T: Tree>(tree: &T, path: TreePath) -> Step
     }
 }
 
-/// The steps that take away what stands at some paths, in the order of the paths.
+/// The steps that remove the objects at some paths, in the order of the paths.
 fn removals<T: Tree>(alloc: Global, tree: &T, paths: Vec<TreePath>) -> Result<Vec<Step>, AllocError>
     ensures { IfOk result (λ steps. steps.items ≡ map (removal_at (T.state tree.now)) paths.items) }
 {
@@ -89,7 +89,7 @@ fn removals<T: Tree>(alloc: Global, tree: &T, paths: Vec<TreePath>) -> Result<Ve
     Ok(steps)
 }
 
-/// Takes away what stands at some paths, from the last one on. A directory that stays and lost a child has changed.
+/// Removes the objects at some paths, from the last one on. A directory that stays and lost a child has changed.
 pub fn remove_all<T: Tree>(
     alloc: Global,
     tree: &mut T,

@@ -44,7 +44,7 @@ fn done(
     }
 }
 
-/// The object that is there, else the new one.
+/// The object that is there, otherwise the new one.
 fn made(new: &ObjectState, old: Option<ObjectState>) -> Result<Option<ObjectState>, AllocError>
     ensures { IfOk result (λ object_state. object_state ≡ done (Make new.now) old) }
 {
@@ -54,7 +54,7 @@ fn made(new: &ObjectState, old: Option<ObjectState>) -> Result<Option<ObjectStat
     }
 }
 
-/// The object that is there where it stays, else the new one.
+/// The object that is there where it stays, otherwise the new one.
 fn renewed(
     test: Test,
     new: &ObjectState,
@@ -137,7 +137,7 @@ fn append(object_state: &mut ObjectState, bytes: &Bytes) -> Result<(), AllocErro
     Ok(())
 }
 
-/// Gives an object an owner and an owning group, each where it is given.
+/// Gives an object an owner and an owning group, each if it is given.
 fn set_owner(object_state: &mut ObjectState, uid: Option<u32>, gid: Option<u32>)
     ensures { object_state.new ≡ changed object_state.old.body.kind (Owner uid gid) object_state.old }
 {
@@ -165,7 +165,7 @@ fn apply_line(
     Ok(())
 }
 
-/// Puts extended attributes into those of what is no link, each over one of the same name.
+/// Puts extended attributes into those of an object that is not a link, each in place of one of the same name.
 fn put_attrs(object_state: &mut ObjectState, attrs: &AttrList) -> Result<(), AllocError>
     ensures { OnOk result (object_state.new ≡ changed object_state.old.body.kind (Attrs attrs.now) object_state.old) }
 {

@@ -1,7 +1,6 @@
 //! Setting the metadata of the object at a path of a tree.
-ghost use Rattle.std.specs.Prelude.{◌≡◌, ◌↔◌, ◌≤◌, IsTrue, OnOk, Some};
+ghost use Rattle.std.specs.Prelude.{◌≡◌, ◌↔◌, ◌≤◌, IsTrue, OnOk};
 ghost use Rattle.pv_steps.specs.declared.step.Step.TheVariants.{SetOwner, SetMode};
-ghost use Rattle.pv_steps.specs.Trees.{IsPresent, IsTree, node_at};
 ghost use Rattle.pv_steps.specs.Acting.{asked, Acted};
 ghost use Rattle.pv_walk.specs.SettingMetadata.{CanSetMetadata, SettingMetadata, GivesMetadata, ChangedAt, IsKeptBy};
 ghost use Rattle.pv_walk.specs.SettingMetadata.{metadata_mode, with_metadata, with_owner_of, with_mode_of, with_acl_of, with_attrs_of, with_letters_of};
@@ -10,11 +9,11 @@ ghost use Rattle.pv_walk.specs.Changing.{SameBase, HasOwner, HasMode, Changing, 
 use crate::object_state::Metadata;
 use pv_acl::Part;
 use pv_path::TreePath;
-use pv_steps::{Node, Step, Tree, TreeFault, try_step};
+use pv_steps::{Node, Step, Tree, TreeFault, node_of, try_step};
 
-/// Gives the object at a path metadata: owner, mode, ACL, extended attributes and letters, in this order, each only
-/// where that changes something (chown(2), chmod(2), setfacl(1), setxattr(2), chattr(1)); nothing is asked of the
-/// tree where the object has all of it. A link, which has always mode 0777, gets owners alone.
+/// Sets the metadata of the object at a path (chown(2), chmod(2), setfacl(1), setxattr(2), chattr(1)). Owner, mode,
+/// ACL, extended attributes and file attribute flags are set in this order, each only if that changes something.
+/// Nothing is asked of the tree if the object has all of it. A link, which has always mode 0777, gets owners alone.
 pub fn set_metadata<T: Tree>(
     tree: &mut T,
     path: &TreePath,
@@ -190,18 +189,6 @@ fn give_letters<T: Tree>(
     try_step(tree, step, now)
 }
 
-/// The node at a path where an object stands.
-fn node_of<'a, T: Tree>(tree: &'a T, path: &TreePath) -> &'a Node
-    requires { IsPresent (T.state tree.now) path.now }
-    ensures node { Some result.now ≡ node_at (T.state tree.now) path.now }
-    ensures tree { IsTree (T.state tree.now) }
-{
-    match tree.look(path) {
-        Some(node) => node,
-        None => unreachable!(),
-    }
-}
-
 fn has_owner(node: &Node, new: &Metadata) -> bool
     ensures { IsTrue result ↔ HasOwner new.now node.now }
 {
@@ -215,7 +202,7 @@ fn has_mode(node: &Node, new: &Metadata) -> bool
 }
 
 /// Whether the base entries of two parts are the same.
-fn is_same_base(a: &Part, b: &Part) -> bool
+pub fn is_same_base(a: &Part, b: &Part) -> bool
     ensures { IsTrue result ↔ SameBase a.now b.now }
 {
     a.owner == b.owner && a.group == b.group && a.other == b.other

@@ -14,8 +14,8 @@ use pv_path::{Bytes, TreePath};
 use pv_steps::{Step, Tree, TreeFault, try_step};
 use std::alloc::AllocError;
 
-/// Makes a new object at a path, with its content, in the mode and with the owners that it is made with: where nothing
-/// stands and the parent is a directory. After a fault it may be there without its content.
+/// Makes a new object at an absent path whose parent is a directory. It is made with its content, mode and owners.
+/// After a fault it may be there without its content.
 pub fn put_held<T: Tree>(
     tree: &mut T,
     path: &TreePath,

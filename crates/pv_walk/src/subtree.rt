@@ -1,4 +1,4 @@
-//! Subtrees of new objects, put at paths: made under a staging name, they come to their path in one step.
+//! Subtrees of new objects: they are made under a staging name, and renamed into place in one step.
 ghost use Rattle.std.specs.Prelude.{◌≡◌, ◌≢◌, ◌+◌, [], true, is_some, OnOk};
 ghost use Rattle.pv_walk.specs.Edits.{count_at};
 ghost use Rattle.pv_path.specs.Paths.{parent_of, staging_of};
@@ -19,8 +19,8 @@ use pv_path::{TreePath, staging};
 use pv_steps::{Tree, TreeFault};
 use std::alloc::Global;
 
-/// Puts what pieces of work make at a path in a directory, in the place of all that stands at and below the path: it is
-/// made under the staging name, and comes to its path in one step with all below it, once what stands there has made
+/// Puts what pieces of work make at a path in a directory, in place of the old object and all below it. It is made
+/// under the staging name. It is renamed into place in one step with all below it, once the old object is out of the
 /// way.
 pub(crate) fn put_subtree<T: Tree>(
     alloc: Global,

@@ -13,7 +13,7 @@ use pv_path::{TreePath, staging};
 use pv_steps::{Tree, TreeFault, is_present};
 use std::alloc::Global;
 
-/// Takes away what stands at a path, with all below it, where anything is there.
+/// Removes the object at a path, with all below it, if it is present.
 pub(crate) fn take_away<T: Tree>(
     alloc: Global,
     tree: &mut T,
@@ -53,9 +53,8 @@ fn sweep_place<T: Tree>(
     take_away(alloc, tree, &stage, now)
 }
 
-/// Takes away what an earlier run has left along a path: for each place from the root's child to
-/// the path itself, what stands at its staging name, with all below it. Each name of the path has
-/// at most 250 bytes.
+/// Removes what an earlier run has left along a path. For each path from the root's child to the path itself, it
+/// removes the object at its staging name, with all below it. Each name of the path has at most 250 bytes.
 pub fn sweep<T: Tree>(
     alloc: Global,
     tree: &mut T,

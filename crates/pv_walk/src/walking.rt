@@ -28,10 +28,11 @@ struct Seen {
     owner: u32,
 }
 
-/// Walks along a path from the root, as creating lines do (tmpfiles.d(5) on unsafe path transitions). A path
-/// is refused at its first place where a place above the last is a link or no directory, or where root does
-/// not own the place above and the place has another owner. An absent last place counts as owned by `made`,
-/// any other absent place by root. Else the answer is the first absent place, or that all are present.
+/// Walks along a path from the root, as creating lines do (tmpfiles.d(5) on unsafe path transitions). The answer is the
+/// first component at which the path is refused, otherwise the first absent component, or that all are present. A
+/// component above the last is refused if it is a link or not a directory. A component is refused if its parent does
+/// not belong to root, and it has another owner than its parent. An absent last component counts as owned by `made`,
+/// any other absent component by root.
 pub fn walk<T: Tree>(
     alloc: Global,
     tree: &T,
@@ -80,8 +81,8 @@ pub fn refusal_of<T: Tree>(
     }
 }
 
-/// The first place above a path that cannot be passed, counted by the names that lead to it, and why: it is a link, or
-/// another object that is no directory. Owners do not count.
+/// The first component above a path that cannot be passed, counted by the names that lead to it, and why. It is a link,
+/// or another object that is not a directory. Owners do not count.
 pub fn unsafe_component<T: Tree>(
     alloc: Global,
     tree: &T,
@@ -108,7 +109,7 @@ pub(crate) fn go_down(place: &mut TreePath, name: &Name) -> Result<(), AllocErro
     place.push(name.copy()?)
 }
 
-/// What stands at a path.
+/// The object at a path.
 fn seen_at<T: Tree>(tree: &T, at: &TreePath) -> Option<Seen>
     ensures seen { result ≡ seen_of (places (T.state tree.now) at.now) }
     ensures tree { IsTree (T.state tree.now) }
@@ -122,7 +123,7 @@ fn seen_at<T: Tree>(tree: &T, at: &TreePath) -> Option<Seen>
     }
 }
 
-/// The owner of a place, or the one that it counts as owned by where it is absent.
+/// The owner of a place, or the one that it counts as owned by if it is absent.
 fn owner_of(place: Option<Seen>, absent: u32) -> u32
     ensures { result ≡ seen_owner place absent }
 {
