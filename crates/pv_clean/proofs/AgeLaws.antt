@@ -23,7 +23,7 @@ use Rattle.pv_table.specs.Reaching.{names}
 use Rattle.pv_table.specs.Scopes.{scope}
 use Rattle.pv_path.proofs.Tests.{same_tests}
 
--- what was pruned goes and is gone, or is there as it was, stamps aside
+-- what was pruned goes and is gone, or is there as it was, timestamps aside
 pub took : (goes : Path → Bool) (t u : Files) (q : Path) → Pruned goes t u → ((goes q ≡ true) × IsAbsentIn (places u) q) ⊎ (object_states (places u) q ≡ object_states (places t) q)
 took goes t u q pruned = by (goes q) refl
   where

@@ -25,7 +25,7 @@ aged_together lines now t q =
     ∙ ap (λ (f : Path → Bool). goes_whole f t q) (λ i r. goes_aged lines now t r i)
 
 module _ (goes : Path → Bool) (t : Files) where
-  -- the stop law
+  -- crash safety
   pub takes_only : (Q : Step → Type 0) (now : ℕ) (h : List Step) (u : Files) (k : List Step) → Ran (Pruned goes t) Q now t h u k → TakesOnly goes now t (drop (length h) k)
   takes_only Q now h u k run n q = took goes t (after_all t (take n (drop (length h) k)) now) q (told_prefix (Pruned goes t) Q now t h u k run n)
 

@@ -1,4 +1,4 @@
--- Laws of what a clean phase does at some paths, the last of a list first: what stands at each path on the way and at the end.
+-- Laws of what a clean phase does at some paths, the last of a list first: the object at each path on the way and at the end.
 use Rattle.std.specs.Prelude.{◌≡◌, ◌≢◌, ℕ, ◌+◌, ◌≤◌, Bool, true, false, cond, not, ◌&&◌, ◌||◌, List, [], ◌∷◌, ◌++◌, length, map, filter, reverse, Option, Some, None, is_some, option_map}
 use Rattle.std.proofs.Common.{refl, sym, ap, subst, ◌∙◌, inl, inr, arith, length-append}
 use Rattle.std.specs.FinMap as fin
@@ -38,7 +38,7 @@ use Rattle.pv_path.proofs.Tests.{true_not_false, none_of}
 
 -- ---- one path
 
--- an object with the stamps of access and modification that stand at a path in a tree
+-- an object with the timestamps of access and modification that stand at a path in a tree
 abbrev pub with_own : Files → Path → ℕ → Object → Object
 with_own t p now o = with_stamps (option_map_or (λ x. x.node.stamps.access) (places t p) 0) (option_map_or (λ x. x.node.stamps.modify) (places t p) 0) now o
 
@@ -85,13 +85,13 @@ module _ (goes : Path → Bool) (t : Files) (now : ℕ) (p : Path) (y : Places) 
       by true e = gone-other now p y q d (other e)
       by false e = ap (λ b. cond b (option_map (with_own t p now) (y q)) (y q)) d
 
-  -- what stays has its stamps
+  -- what stays has its timestamps
   pub one-set : (q : Path) → p ≡ q → goes q ≡ false → worked_one goes t now p y q ≡ option_map (with_own t p now) (y q)
   one-set q is h =
       ap (λ b. cond b (gone now p y q) (on_at p (with_own t p now) y q)) (ap goes is ∙ h)
       ∙ ap (λ b. cond b (option_map (with_own t p now) (y q)) (y q)) (ap (λ (r : Path). same_path r q) is ∙ same_path-refl q)
 
-  -- and is the same, stamps aside
+  -- and is the same, timestamps aside
   pub one-object_state : (q : Path) → goes q ≡ false → option_map object_state (worked_one goes t now p y q) ≡ option_map object_state (y q)
   one-object_state q h = elim (same_or_not p q) [
     | inl e ↦ ap (option_map object_state) (one-set q e.0 h) ∙ by (y q)
@@ -211,7 +211,7 @@ module _ (goes : Path → Bool) (t : Files) (now : ℕ) where
       is ∙ ap (λ ss. after_all t ss now) (reverse-first (clean_step goes t p) steps) ∙ after_all-append t (reverse steps) (clean_step goes t p ∷ []) now in
       step_works p before u last ∙ ap (worked_one goes t now p) (steps_work ps before refl)
 
-  -- stamps aside, nothing has changed but that paths that go may be gone
+  -- timestamps aside, nothing has changed but that paths that go may be gone
   worked_pruned : (ps : List Path) (u : Files) → places u ≡ worked goes t now ps (places t) → Pruned goes t u
   worked_pruned ps u is =
       let at : (q : Path) → places u q ≡ worked goes t now ps (places t) q = λ q. ap (λ (x : Places). x q) is in
@@ -319,7 +319,7 @@ child_lost goes t q r nonempty over there h = elim (path_ends r) [
       )
 ]
 
--- with its own stamps, of an object only that of its change is new
+-- with its own timestamps, of an object only that of its change is new
 pub own_again : (now : ℕ) (o new : Option Object) → is_some o ≡ true → IsKept now o new
     → option_map (with_stamps (option_map_or (λ x. x.node.stamps.access) o 0) (option_map_or (λ x. x.node.stamps.modify) o 0) now) new ≡ option_map (changed now) o
 own_again now None new h k = cc
@@ -370,7 +370,7 @@ module _ (goes : Path → Bool) (t : Files) (now : ℕ) (steps : List Step) (pla
       ∙ one-set goes t now q (worked goes t now back (places t)) q refl stays
       ∙ own_again now (places t q) (worked goes t now back (places t) q) there (worked-kept goes t now (places t) q back (omega (arith, here, self, one)))
 
-  -- what stands at each path
+  -- the object at each path
   worked_at : (q : Path) → worked goes t now plan.paths (places t) q ≡ cond (goes q) None (cond (loses_child goes t q) (option_map (changed now) (places t q)) (places t q))
   worked_at q = by (is_some (places t q)) (goes q) (loses_child goes t q) refl refl refl
     where

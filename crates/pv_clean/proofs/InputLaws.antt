@@ -34,7 +34,7 @@ use Rattle.pv_table.proofs.GoingInput.{MayChange, governs_below, kept_content, k
 use Rattle.pv_table.proofs.GoingLaws.{any_weaken}
 use Rattle.pv_path.proofs.Tests.{true_not_false}
 
--- ---- where no line gives an age
+-- ---- if no line gives an age
 
 module _ (lines : List Line) where
   no_age : (path : Path) → list_any (gives_age path) lines ≡ false → first_age lines path ≡ None
@@ -72,7 +72,7 @@ cleaning_leaves goes t (RemoveDir path) q h stays = removal_inside goes (RemoveD
 cleaning_leaves goes t (SetStamps path access modify) q h stays = refl
 cleaning_leaves goes t step q h stays = absurd h
 
--- where no line gives an age to what a path lies below, it may not go
+-- if no line gives an age to what a path lies below, it may not go
 module _ (lines : List Line) (now : ℕ) (t : Files) where
   ageless : (q : Path) → ((k : ℕ) → k < length q + 1 → list_any (gives_age (take k q)) lines ≡ false) → may_go lines now t q ≡ false
   ageless [] none = refl

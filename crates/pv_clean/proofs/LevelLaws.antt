@@ -332,7 +332,7 @@ pub all_clones : (n : ℕ) → AllClonesOf {X = Bool} (λ x y. y ≡ x) false (r
 all_clones zero = tt
 all_clones (suc n) = (inl refl, all_clones n)
 
--- where nothing is noted, or there is no number for it
+-- where nothing is noted, or there is not a number for it
 pub noted_not : (old : ℕ → Bool) (n k : ℕ) (is : Bool) → n ≤ 0 → (nat_lt k n && old k) ≡ noted n is old k
 noted_not old n k is none =
     let no = not_lt k n (omega (arith, none)) in

@@ -1,4 +1,4 @@
--- Laws of the order of a clean phase: a directory has its stamps back before anything goes that does not lie below it.
+-- Laws of the order of a clean phase: a directory has its timestamps back before anything goes that does not lie below it.
 use Rattle.std.specs.Prelude.{◌≡◌, ◌≢◌, ℕ, ◌+◌, ◌≤◌, Bool, true, false, cond, ◌&&◌, ◌||◌, not, List, [], ◌∷◌, ◌++◌, length, map, reverse, take, drop, Option, Some, None, is_some, option_map, Result}
 use Rattle.std.proofs.Common.{refl, sym, ap, subst, ◌∙◌, append_assoc, inl, inr, ◌⊎◌, arith, length-append, zero, suc}
 use Rattle.std.proofs.lemmas.Bool.{cases_Bool, and_parts, and_from}
@@ -41,7 +41,7 @@ le_or (suc n) (suc m) = elim (le_or n m) [
   | inr h ↦ inr (omega (arith, h))
 ]
 
--- a front part of what is done from the end of a list is what is done from the end of a back part of it
+-- a prefix of what is done from the end of a list is what is done from the end of a back part of it
 pub record Cut (f : Path → Step) (n : ℕ) (ps : List Path) : Type 0 where
   pub front : List Path
   pub back : List Path
@@ -147,7 +147,7 @@ module _ (goes : Path → Bool) (t : Files) (now : ℕ) (steps : List Step) (pla
   order : GoAfter goes t back
   order = order_back goes t front back (subst (GoAfter goes t) (sym parts) plan.order)
 
-  -- a directory that stays has its stamps back after its own step
+  -- a directory that stays has its timestamps back after its own step
   given_back : (q : Path) → goes q ≡ false → is_some (places t q) ≡ true → 1 ≤ times q back → option_map moments_of (then_there q) ≡ option_map moments_of (places t q)
   given_back q stays there some =
       let split = taken_out q back some in
@@ -175,7 +175,7 @@ module _ (goes : Path → Bool) (t : Files) (now : ℕ) (steps : List Step) (pla
       ∙ own_again now (places t q) (worked goes t now behind (places t) q) there (worked-kept goes t now (places t) q behind (omega (arith, here, self, one))))
       ∙ own_moments now (places t q)
 
-  -- what has other stamps lost a child, and its own step is still to come
+  -- what has other timestamps lost a child, and its own step is still to come
   open_of : (q : Path) → is_some (then_there q) ≡ true → (option_map moments_of (then_there q) ≢ option_map moments_of (places t q)) → Lost goes q back × (1 ≤ times q front)
   open_of q present differs = elim (zero_or_more (times q back)) [
     | inl z ↦ elim (lost_or_not goes q back) [
@@ -214,7 +214,7 @@ module _ (goes : Path → Bool) (t : Files) (now : ℕ) (steps : List Step) (pla
       at : (r : Path) → then_there r ≡ places u r
       at r = sym (ap (λ (x : Places). x r) (steps_work goes t now back u is))
 
--- where no step was done
+-- if no step was done
 pub none_in_turn : (now : ℕ) (t : Files) (h : List Step) → IsCleanedInTurn now t (drop (length h) h)
 none_in_turn now t h n p q first second =
     absurd (first.1 (ap (λ (ss : List Step). option_map moments_of (places (after_all t ss now) p)) (ap (take n) (drop-length h) ∙ take-nil n)))

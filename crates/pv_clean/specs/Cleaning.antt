@@ -1,4 +1,4 @@
--- Cleaning by steps: which directories get their stamps back, what a clean phase asks of a tree, and what one that was cut
+-- Cleaning by steps: which directories get their timestamps back, what a clean phase asks of a tree, and what one that was cut
 -- short has done (tmpfiles.d(5), "Age"; utimensat(2)).
 use Rattle.std.specs.Prelude.{◌≡◌, ◌≢◌, ◌⊎◌, ℕ, ◌+◌, ◌≤◌, Bool, true, cond, not, ◌&&◌, ◌||◌, List, [], ◌∷◌, map, take, Some, is_some, option_map, if◌then◌else◌, ⊤}
 use Rattle.std.specs.Option.{option_map_or}
@@ -21,12 +21,12 @@ stays_and_loses goes t q = not (goes q) && loses_child goes t q
 abbrev pub is_task : (Path → Bool) → Files → Path → Bool
 is_task goes t q = goes q || loses_child goes t q
 
--- the step that gives a path the stamps of access and of modification that stand there in a tree; 0 where nothing does
+-- the step that gives a path the timestamps of access and of modification that stand there in a tree; 0 where nothing does
 abbrev pub giving_back : Files → Path → Step
 giving_back t path =
     SetStamps path (option_map_or (λ o. o.node.stamps.access) (places t path) 0) (option_map_or (λ o. o.node.stamps.modify) (places t path) 0)
 
--- the step at a path: what goes is taken away, what stays gets its stamps back
+-- the step at a path: what goes is taken away, what stays gets its timestamps back
 abbrev pub clean_step : (Path → Bool) → Files → Path → Step
 clean_step goes t path = if goes path then removal_at t path else giving_back t path
 
@@ -44,7 +44,7 @@ pub record ArePlanned (goes : Path → Bool) (t : Files) (steps : List Step) : T
   pub order : GoAfter goes t paths
   pub gathered : AreGathered paths
 
--- a step takes away a path that goes, or gives a directory that stays and loses a child the stamps that it has in a tree
+-- a step takes away a path that goes, or gives a directory that stays and loses a child the timestamps that it has in a tree
 abbrev pub IsCleanStep : (Path → Bool) → Files → Step → Type 0
 IsCleanStep goes t (Unlink path) = goes path ≡ true
 IsCleanStep goes t (RemoveDir path) = goes path ≡ true
@@ -57,16 +57,16 @@ IsCleanStep goes t step = ⊥
 abbrev pub most_steps : (Path → Bool) → Files → ℕ
 most_steps goes t = count_of goes t + count_of (stays_and_loses goes t) t
 
--- the stamps of access and of modification of an object
+-- the timestamps of access and of modification of an object
 abbrev pub moments_of : Object → ℕ × ℕ
 moments_of o = (o.node.stamps.access, o.node.stamps.modify)
 
--- what stands at a path has other stamps of access or of modification than in a tree
+-- the object at a path has other timestamps of access or of modification than in a tree
 abbrev pub HasOtherStamps : Files → Files → Path → Type 0
 HasOtherStamps t u q = IsPresent u q × (option_map moments_of (places u q) ≢ option_map moments_of (places t q))
 
--- all that has other stamps than in a tree lies on one way down from the root: of two such paths one lies at or below the
--- other, so each directory has its stamps back before anything goes that does not lie in it
+-- all that has other timestamps than in a tree lies on one way down from the root: of two such paths one lies at or below the
+-- other
 abbrev pub AreOnOneWay : Files → Files → Type 0
 AreOnOneWay t u = (p q : Path) → HasOtherStamps t u p → HasOtherStamps t u q → (is_prefix p q ≡ true) ⊎ (is_prefix q p ≡ true)
 
@@ -74,7 +74,7 @@ AreOnOneWay t u = (p q : Path) → HasOtherStamps t u p → HasOtherStamps t u q
 abbrev pub IsCleanedInTurn : ℕ → Files → List Step → Type 0
 IsCleanedInTurn now t steps = (n : ℕ) → AreOnOneWay t (after_all t (take n steps) now)
 
--- after each number of these steps each path is one that goes and is gone, or has what stood there, stamps aside
+-- after each number of these steps each path is one that goes and is gone, or has what stood there, timestamps aside
 abbrev pub TakesOnly : (Path → Bool) → ℕ → Files → List Step → Type 0
 TakesOnly goes now t steps = (n : ℕ) (q : Path) →
     ((goes q ≡ true) × IsAbsentIn (places (after_all t (take n steps) now)) q)

@@ -9,8 +9,8 @@ use Rattle.pv_table.specs.Reaching.{names}
 use Rattle.pv_table.specs.Scopes.{scope}
 use Rattle.pv_table.specs.Children.{children_go}
 
--- a present path other than the root is aged where no line names it, what stands there is old by the age of the directory in
--- which it stands, which does not spare it, and it is no directory or all that stands in it is aged
+-- a present path other than the root is aged if no line names it, the object there is old by the age of the directory in
+-- which it stands, which does not spare it, and it is not a directory or all that stands in it is aged
 abbrev pub is_aged_by : (Path → Bool) → List Line → ℕ → Files → Path → Bool
 is_aged_by aged lines now t path =
     not (length path == 0) && not (list_any (λ line. names line path) lines)

@@ -31,7 +31,7 @@ struct Aging<'a, T: Tree> {
     time: u64,
 }
 
-/// A path, and whether what stands there may go by itself.
+/// A path, and whether the object there may be removed by itself.
 #[derive(Drop)]
 pub(crate) struct Judged {
     pub(crate) path: TreePath,
@@ -61,8 +61,8 @@ pub(crate) fn all_judged<T: Tree>(
     judge_all(alloc, &aging, root, listed)
 }
 
-/// Judges the root and a listing of what stands below it. The age for what stands in a directory is looked for once, and
-/// kept by the number of the directory's names as long as what follows lies in it.
+/// Judges the root and a listing of all objects below it. The age for the objects in a directory is looked for once. It
+/// is kept by the directory's depth while the listing stays inside of the directory.
 fn judge_all<T: Tree>(
     alloc: Global,
     aging: &Aging<'_, T>,
@@ -138,7 +138,8 @@ fn may_go<T: Tree>(aging: &Aging<'_, T>, around: Option<Scope>, path: &TreePath)
     !is_among(aging.named, path) && is_old_by(aging.tree, around, aging.time, path)
 }
 
-/// Whether what stands at a path is old by an age, where that does not spare what stands directly in its directory.
+/// Whether the object at a path is old by an age. An age that spares the first level finds no direct child of its
+/// directory old.
 fn is_old_by<T: Tree>(tree: &T, scope: Option<Scope>, now: u64, path: &TreePath) -> bool
     ensures { result ≡ is_old_by scope now (places (T.state tree.now) path.now) }
 {

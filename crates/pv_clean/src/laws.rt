@@ -1,4 +1,4 @@
-//! Laws of what cleanings take, and of what they leave on their way. Each function does nothing; its contract is the law.
+//! Laws of what cleaning removes, and of its intermediate states. Each function does nothing; its contract is the law.
 ghost use Rattle.std.specs.Prelude.{◌≡◌, ◌⊎◌, ℕ, Bool, List, is_some, true};
 ghost use Rattle.std.specs.List.{list_any};
 ghost use Rattle.pv_lines.specs.declared.line.Line.{Line as LineValue};
@@ -14,24 +14,24 @@ ghost use Rattle.pv_table.specs.Reaching.{governs};
 ghost use Rattle.pv_table.specs.Repeatable.{HasReason};
 ghost use Rattle.pv_clean.specs.Sentences.{is_aged_by};
 
-/// Whatever a cleaning on its way has taken away is aged in the tree in which it began, and all else stands as it stood,
-/// timestamps aside.
+/// What a stopped clean phase has removed is aged in the tree in which it began. All else is as it was, without regard
+/// to timestamps.
 pub fn a_stopped_clean_took_what_is_aged()
     ensures { (lines : List LineValue) (now : ℕ) (t u : Files) (q : Path) → Pruned (is_aged lines now t) t u
         → ((is_aged lines now t q ≡ true) × IsAbsentIn (places u) q) ⊎ (object_states (places u) q ≡ object_states (places t) q) }
 {}
 
-/// Lines none of which may change what lines are read from leave, at each moment on the way of a cleaning, presence, kind
-/// and payload at each path from which lines are read.
+/// Cleaning keeps what lines are read from, if no line may change that. In each intermediate state presence, kind and
+/// payload are as before at each path from which lines are read.
 pub fn a_cleaning_leaves_what_lines_are_read_from()
     ensures { (lines : List LineValue) (now : ℕ) (t u : Files) (q : Path) → IsTree t
         → ((i : ℕ) → HasReason lines i reason.Input → ⊥) → Pruned (is_aged lines now t) t u → is_input q ≡ true
         → content_of (places u q) ≡ content_of (places t q) }
 {}
 
-/// What is aged is what the manual says of a path by what is aged of what stands in it: other than the root, where no line
-/// names it, what stands there is old by the age of the directory in which it stands, which does not spare it, and it is no
-/// directory or all that stands in it is aged.
+/// The paths that are aged are those of the manual. A path other than the root is aged exactly if the following hold.
+/// No line names it. Its object is old by the age of the directory in which it lies, which does not spare it. It is not
+/// a directory, or all in it is aged.
 pub fn what_is_aged_is_as_the_manual_says()
     ensures { (lines : List LineValue) (now : ℕ) (t : Files) (q : Path) → IsTree t
         → is_aged lines now t q ≡ is_aged_by (is_aged lines now t) lines now t q }

@@ -13,8 +13,8 @@ use pv_steps::{Step, Tree};
 use pv_walk::removal;
 use std::alloc::{AllocError, Global};
 
-/// What is known of the children of directories, by the number of a directory's names: of those of them that come after a
-/// path in a list that has all below a directory right after it.
+/// What is known of the children of directories, by the depth of the directory. The children are those that come after
+/// a path. They are in a list that has all below a directory right after it.
 #[derive(Drop)]
 struct Levels {
     /// Whether one of them stays.
@@ -23,10 +23,10 @@ struct Levels {
     going: Vec<bool>,
 }
 
-/// The steps of a clean phase by what may go by itself: what goes, with all below it, is taken away, and a directory that
-/// stays and loses a child gets its timestamps back. From its end on the list has the steps of the children of a directory
-/// in byte order, each after those of all below it, and then that of the directory. No path is looked up to learn of
-/// its children: they were judged right before it.
+/// The steps of a clean phase, by what may be removed by itself. An object is removed with all below it, and a
+/// directory that stays and loses a child gets its timestamps back. From its end on the list has the steps of the
+/// children of a directory in byte order, each after those of all below it. Then comes the step of the directory. No
+/// path is looked up to learn of its children, since they were judged right before it.
 pub(crate) fn clean_steps<T: Tree>(
     alloc: Global,
     tree: &T,

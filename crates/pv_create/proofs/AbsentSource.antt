@@ -68,7 +68,7 @@ module _ (now : ℕ) (path : Path) (t : Files) where
         by (inl above) (inr e) =
             sym (ap is_some (none_under (places t) tree source path (none_of (places t source) (λ k. sym nothing ∙ k)) above.0)) ∙ e
 
--- nothing is said where there is nothing to copy
+-- nothing is said if there is nothing to copy
 pub says_nothing : (now : ℕ) (path : Path) (copying : Copying) (t : Files) → IsTree t → is_some (places t copying.source) ≡ false
     → turn_texts path (decide (Copy copying) (view_of (prepare now path t)) path) ≡ []
 says_nothing now path copying t tree nothing =

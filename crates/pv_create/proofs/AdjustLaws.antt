@@ -48,7 +48,7 @@ use Rattle.pv_table.proofs.Restamping.{object_state_cases, bytes_cases, object_s
 pub own_metadata : (o : Object) → IsObject o → IsMetadata o.node.kind (object_state_of o).metadata
 own_metadata o whole = record { owner = whole.owner; special = whole.special; acl = whole.acl; fits = whole.kind_acl; attrs = whole.attrs; letters = whole.letters }
 
--- what metadata has given, without stamps
+-- what metadata has given, without timestamps
 object_state_worn : (k : ℕ) (d : Metadata) (o : Object) → object_state_of (with_first_changes k d o) ≡ worn k d (object_state_of o)
 object_state_worn zero d o = refl
 object_state_worn (suc zero) d o = refl
@@ -195,9 +195,6 @@ module _ (path : Path) (sets : List Operation) (are : AreSets sets) (t : Files) 
           ∙ ap (λ v. run (take front.k (parts sets)) (option_map object_state_of v)) there ∙ front.is
           )
 
-  pub none_done : (u : Files) → places u ≡ places t → Adjusting path sets t u
-  none_done u e = adjusting_as u o (front_none (parts sets) (object_state_of o)) (λ q. ap (λ p. object_states p q) e ∙ ap (option_map object_state) (sym (put_at-same path (Some o) (places t) there q)))
-
   pub writing : (u : Files) → Changing path (holding wanted.bytes) t u → Adjusting path sets t u
   writing u (inl h) = adjusting_as u o (front_none (parts sets) (object_state_of o)) (λ q. h q ∙ ap (option_map object_state) (sym (put_at-same path (Some o) (places t) there q)))
   writing u (inr h) =
@@ -306,7 +303,7 @@ module _ (path : Path) (sets : List Operation) (are : AreSets sets) (t : Files) 
         | inr e ↦ subst (λ s. n + asked r h k ≤ (if s then 0 else most_changed)) (sym e) (at_most set.kept)
       ])
 
--- what stands at a path where something does
+-- the object at a path where something does
 pub standing : (t : Files) (path : Path) → IsPresent t path → (o : Object) × (places t path ≡ Some o)
 standing t path present = by (places t path) refl present
   where
@@ -374,7 +371,7 @@ file_wanted path t sets o there wanted is = by wanted.bytes is.file
     by (Some bytes) (inl e) = let wrong : Some bytes ≡ None = e in cc
     by (Some bytes) (inr e) = ap kind_of there ∙ ap Some e
 
--- sets that write no bytes, or bytes of what is no file
+-- sets that write no bytes, or bytes of what is not a file
 pub wanted_without : (path : Path) (t : Files) (sets : List Operation) → AreSets sets → (node : Node) → Some node ≡ node_at t path → (writes sets ≡ false) ⊎ (is_file node.kind ≡ false)
     → (made : ObjectState) → run sets (Some (object_state_of (record { node = node; payload = [] }))) ≡ Some made → (o : Object) → places t path ≡ Some o → IsWanted sets o (record { bytes = None; metadata = made.metadata })
 wanted_without path t sets are node seen none made e o there = record {

@@ -1,4 +1,4 @@
--- Laws of what adjusting leaves of an object, stamps included: the sets one after the other leave what they give at once.
+-- Laws of what adjusting leaves of an object, timestamps included: the sets one after the other leave what they give at once.
 use Rattle.std.specs.Prelude.{◌≡◌, ℕ, ◌∷◌, ◌++◌, List, [], Option, Some}
 use Rattle.std.proofs.Common.{refl, sym, ap, ◌∙◌}
 use Rattle.std.proofs.lemmas.Grind.{fold-append}

@@ -85,7 +85,7 @@ none_done (suc k) b = refl
 whole_front : (xs : List Operation) (b : Option ObjectState) → run (take (length (parts xs)) (parts xs)) b ≡ run xs b
 whole_front xs b = ap (λ ys. run ys b) (take-length (parts xs)) ∙ run-parts xs b
 
--- a front part of one operation, or of two, leaves what neither changes
+-- a prefix of one operation, or of two, leaves what neither changes
 one_kept : (x : Operation) (b : Option ObjectState) → run (x ∷ []) b ≡ b → (k : ℕ) → run (take k (x ∷ [])) b ≡ b
 one_kept x b whole zero = refl
 one_kept x b whole (suc zero) = whole
@@ -97,7 +97,7 @@ two_kept x y b first whole (suc zero) = first
 two_kept x y b first whole (suc (suc zero)) = whole
 two_kept x y b first whole (suc (suc (suc k))) = whole
 
--- a front part of operations in parts leaves what all of them left
+-- a prefix of operations in parts leaves what all of them left
 abbrev KeepsEnd : List Operation → Type 0
 KeepsEnd xs = (k : ℕ) (b : Option ObjectState) → run (take k (parts xs)) (run xs b) ≡ run xs b
 
@@ -258,7 +258,7 @@ deep_keeps line adjustment e deep = by (asked line)
 
 -- ---- a line that adjusts what is there
 
--- of what stands at a path nothing is set, or a front part of the sets, where some turn reaches the path
+-- of the object at a path nothing is set, or a prefix of the sets, where some turn reaches the path
 abbrev IsFront : List Operation → Option ObjectState → Option ObjectState → Type 0
 IsFront xs old new = (k : ℕ) × (new ≡ run (take k (parts xs)) old)
 
@@ -268,7 +268,7 @@ front_more xs false more old new front = front
 front_more xs true true old new front = front
 front_more xs true false old new front = (zero, front.1 ∙ none_done front.0 old)
 
--- what is set after a turn that reached it is a front part of what is set from its start
+-- what is set after a turn that reached it is a prefix of what is set from its start
 front_on : (xs : List Operation) (more : Bool) (old mid new : Option ObjectState) → (more ≡ true → KeepsEnd xs) → mid ≡ run xs old → IsFront (cond more xs []) mid new → IsFront xs old new
 front_on xs false old mid new keeps e front = (length (parts xs), front.1 ∙ none_done front.0 mid ∙ e ∙ sym (whole_front xs old))
 front_on xs true old mid new keeps e front = (length (parts xs), front.1 ∙ ap (run (take front.0 (parts xs))) e ∙ keeps refl front.0 old ∙ sym (whole_front xs old))
@@ -372,7 +372,7 @@ module _ (now : ℕ) (line : Line) (adjustment : Adjustment) (e : action_of line
 
 -- ---- a line that makes or copies something
 
--- what stands at one path while it is at work: the same, or a parent; what the first of the sets, in parts, make of it, at
+-- the object at one path while it is at work: the same, or a parent; what the first of the sets, in parts, make of it, at
 -- the path of the line; or nothing yet, where something is put
 data IsAtWork (now : ℕ) (line : Line) (t : Files) (q : Path) (old new : Option ObjectState) : Type 0 where
   kept : new ≡ old → IsAtWork now line t q old new
@@ -385,7 +385,7 @@ Puts (Create making) = ⊤
 Puts (Copy copying) = ⊤
 Puts action = ⊥
 
--- it sets what stands at its path alone
+-- it sets the object at its path alone
 abbrev set_alone : Turn → Bool → List Operation
 set_alone (Turn.Become xs) here = if here then xs else []
 set_alone turn here = []
@@ -516,7 +516,7 @@ module _ (now : ℕ) (line : Line) (making : Making) (e : action_of line ≡ Cre
         asked_made line making q e ∙ asked_else making path q other (not_above (is_prefix q path) refl)
         ∙ ap (λ b. cond (b && clears_below making) (Erase ∷ []) []) below
 
-    -- below what is no directory nothing stands
+    -- below what is not a directory nothing stands
     none_below : is_dir (object_states_of (places t) path) ≡ false → object_states_of (places t) q ≡ None
     none_below h = by (object_states_of (places t) q) refl
       where
@@ -573,7 +573,7 @@ module _ (now : ℕ) (line : Line) (making : Making) (e : action_of line ≡ Cre
 
 -- ---- a line that copies
 
--- what a line that copies becomes of what stands there is what it sets
+-- what a line that copies becomes of the object there is what it sets
 become_sets : (copying : Copying) (v : View) (path : Path) (xs : List Operation) → decide (Copy copying) v path ≡ Turn.Become xs → xs ≡ copying.sets
 become_sets copying v path xs e = by (v.at copying.source) refl
   where
@@ -611,7 +611,7 @@ module _ (now : ℕ) (line : Line) (copying : Copying) (e : action_of line ≡ C
         own = become_sets copying (view_of (found now (Copy copying) (path_in line.path) t)) (path_in line.path) xs (sym turn_there ∙ becomes)
     copy_at q old new (gone subtree below put none) = IsCopyMidway.gone subtree below (sym turn_there ∙ put) none
 
-  -- where it is absent
+  -- if it is absent
   module _ (none : is_some (places t copying.source) ≡ false) where
     idle_turn : turn_at now line (path_in line.path) t ≡ Turn.Nothing
     idle_turn = copy_turn ∙ ap (λ b. if b then turn_of line copying now t else Turn.Nothing) none

@@ -1,4 +1,4 @@
--- Laws of what is decided at a path, by what stands there.
+-- Laws of what is decided at a path, by the object there.
 use Rattle.std.specs.Prelude.{◌≡◌, ℕ, Bool, true, false, not, ◌&&◌, List, [], ◌∷◌, filter_map, Option, Some, None, option_map, if◌then◌else◌}
 use Rattle.std.specs.List.{cons_option, list_all}
 use Rattle.std.specs.Option.{option_map_or}

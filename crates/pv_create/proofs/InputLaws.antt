@@ -58,7 +58,7 @@ use Rattle.pv_create.specs.Ways.{lines_course}
 use Rattle.pv_create.proofs.BridgeLaws.{line_way, line_whole}
 use Rattle.pv_path.proofs.Tests.{true_not_false}
 
--- ---- what reading can see of an object without stamps
+-- ---- what reading can see of an object without timestamps
 
 abbrev pub held : Option ObjectState → Option (Kind × List ℕ)
 held b = option_map (λ (x : ObjectState). (x.body.kind, x.body.payload)) b

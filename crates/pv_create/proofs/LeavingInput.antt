@@ -1,6 +1,6 @@
 -- A run of lines none of which may change what lines are read from leaves presence, kind and payload at each input path,
 -- staging names included: where a folder from which lines are read is there, no step of the run brings, takes away or
--- rewrites anything below it under a staging name; where it is absent it stays so, and all below it.
+-- rewrites anything below it under a staging name; if it is absent it stays so, and all below it.
 use Rattle.std.specs.Prelude.{◌≡◌, ◌≢◌, ◌⊎◌, ℕ, Bool, true, false, not, ◌&&◌, ◌||◌, List, [], ◌∷◌, filter, Option, Some, None, is_some, option_map}
 use Rattle.std.proofs.Common.{refl, sym, ap, subst, ◌∙◌, inl, inr}
 use Rattle.std.specs.FinMap as fin
@@ -214,7 +214,7 @@ abbrev pub IsOutsideFolders : Files → Step → Type 0
 IsOutsideFolders t step = (f q : Path) → has_staging f ≡ false → is_prefix f q ≡ true → has_staging q ≡ true → is_input f ≡ true → has_names f ≡ true → is_input q ≡ true → has_names q ≡ true
     → is_some (object_states_of (places t) f) ≡ true → alters step q ≡ false
 
--- steps that leave what lines are read from where there is no staging name, and alter nothing under one below folders, leave
+-- steps that leave what lines are read from if there is not a staging name, and alter nothing under one below folders, leave
 -- it everywhere
 module _ (now : ℕ) (t : Files) (tree : IsTree t) (steps : List Step) (there : IsTree (after_all t steps now)) where
   module _ (leaves : (q : Path) → is_input q ≡ true → has_staging q ≡ false → content_of (places (after_all t steps now) q) ≡ content_of (places t q)) (out : AllByRecursion (IsOutsideFolders t) steps) where

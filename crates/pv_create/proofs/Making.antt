@@ -1,4 +1,4 @@
--- Laws of single operations that are set: what each makes of an object without its stamps, and that the object stays one
+-- Laws of single operations that are set: what each makes of an object without its timestamps, and that the object stays one
 -- that its kind can be.
 use Rattle.std.specs.Prelude.{◌≡◌, ℕ, ◌-◌, ◌++◌, ◌/◌, ◌%◌, ◌<◌, ◌≤◌, ◌^◌, Bool, true, false, ◌&&◌, ◌∷◌, List, [], bit_and, Some, unwrap_or, if◌then◌else◌}
 use Rattle.std.specs.List.{list_all}
@@ -109,7 +109,7 @@ pub record ModeMade (xs : List Operation) (b : ObjectState) : Type 0 where
   pub fits : IsMetadata b.body.kind b.metadata → IsMetadata b.body.kind (record b.metadata { special = special; acl = record b.metadata.acl { access = access } })
   pub plain : parts xs ≡ xs
 
--- what is no link takes other base entries and other special bits
+-- what is not a link takes other base entries and other special bits
 other_mode : (kind : Kind) (special other : ℕ) (acl : Acl) (access : Part) → (kind ≡ Link → ⊥) → AclFits kind special acl → AclFits kind other (record acl { access = access })
 other_mode Directory special other acl access real h = tt
 other_mode File special other acl access real h = h
@@ -203,7 +203,7 @@ mode_made (x ∷ y ∷ xs) h b = absurd h
 
 -- ---- entries, extended attributes, letters
 
--- what is no link takes the ACL that entries make
+-- what is not a link takes the ACL that entries make
 pub fits_entries : (kind : Kind) (special : ℕ) (acl : Acl) (line : AclLine) (how : How) → (kind ≡ Link → ⊥) → AclFits kind special acl → AclFits kind special (acl_after acl line how (is_directory kind))
 fits_entries Directory special acl line how real h = tt
 fits_entries File special acl line how real h = h

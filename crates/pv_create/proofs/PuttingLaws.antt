@@ -201,7 +201,7 @@ keyed (Copy copying) path u rest h = copy_keyed copying path u rest h
 keyed (Adjust adjustment) path u rest h = absurd (let no : false ≡ true = h in cc)
 keyed Idle path u rest h = absurd (let no : false ≡ true = h in cc)
 
--- it stands at the path, stamps aside
+-- it stands at the path, timestamps aside
 pub put_object_states : (now : ℕ) (action : Action) (path : Path) (u : Files) (s : Subtree) → decide action (view_of u) path ≡ Turn.Put s → (q : Path)
     → object_states (places (turned now action path (Turn.Put s) u)) q ≡ object_states (with_subtree 0 path s (places u)) q
 put_object_states now action path u s e q =

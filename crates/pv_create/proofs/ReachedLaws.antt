@@ -1,4 +1,4 @@
--- Laws of adjusting what stands at each path of a list.
+-- Laws of adjusting the object at each path of a list.
 use Rattle.std.specs.Prelude.{◌≡◌, ◌⊎◌, ℕ, ◌+◌, ◌≤◌, ◌<◌, Bool, true, false, cond, not, ◌&&◌, ◌||◌, List, [], ◌∷◌, ◌++◌, map, filter, fold, sum, length, take, drop, get_or, Option, Some, None, is_some, option_map, Result, Ok, Err, OnOk, if◌then◌else◌}
 use Rattle.std.specs.FinMap as fin
 use Rattle.std.proofs.Common.{refl, sym, ap, subst, ◌∙◌, inl, inr, arith, zero, suc}
@@ -119,7 +119,7 @@ times-permuted xs ys h q = times-sum q ys ∙ sum_by-IsPermutation (λ p. cond (
 
 -- ---- the same object
 
--- what a step gives is told by what stands at the path
+-- what a step gives is told by the object at the path
 gives_same : (q : Path) (sets : List Operation) (u t : Files) → places u q ≡ places t q → (s : Step) → GivesSet q sets u s → GivesSet q sets t s
 gives_same q sets u t e s h = record { new = h.new; is = ap (λ v. run sets (option_map object_state_of v)) (sym e) ∙ h.is; gives = by h.gives }
   where
@@ -140,7 +140,7 @@ gives_same q sets u t e s h = record { new = h.new; is = ap (λ v. run sets (opt
 -- ---- all that a line reaches
 
 module _ (now : ℕ) (adjustment : Adjustment) (path : Path) (t : Files) where
-  -- what stands at each path when all is adjusted
+  -- the object at each path when all is adjusted
   abbrev pub touched_at : Path → Option Object
   touched_at q = if is_adjusted adjustment path q then option_map (become now adjustment.sets) (places t q) else places t q
 
@@ -217,7 +217,7 @@ order_start adjustment path t u same = record {
     least [] e = let no : Equal ≡ Less = e in cc
     least (n ∷ q) e = let no : Greater ≡ Less = e in cc
 
--- what sets make of an object, stamps aside
+-- what sets make of an object, timestamps aside
 adjusts_one : (is : Guard → Change → Type 0) (xs : List Operation) → AtMostOne is xs → list_all is_adjustment xs ≡ true
 adjusts_one is [] h = refl
 adjusts_one is (Apply guard change ∷ []) h = refl
@@ -245,10 +245,6 @@ module _ (adjustment : Adjustment) (path : Path) (t : Files) (paths : List Path)
 
   abbrev pub weight : Path → ℕ
   weight = λ q. change_work sets (places t q)
-
-  -- what has been done of it so far
-  pub record Reaching (front : List Path) (u : Files) : Type 0 where
-    pub here : places u ≡ each_at (become now sets) front (places t)
 
   pub at_most : (n : ℕ) → sum (map weight (take n paths)) ≤ adjust_work adjustment path t
   at_most n = sum-times weight (take n paths) (filter (is_adjusted adjustment path) (fin.keys t)) counted
@@ -306,7 +302,7 @@ module _ (adjustment : Adjustment) (path : Path) (t : Files) (paths : List Path)
           moved b same h = subst (λ b. IsPartSet (is_adjusted adjustment path q) sets (object_states_of (places t) q) b) (sym same) h
 
       module _ (sorted : IsSorted path_cmp paths) (are : AreSets sets) where
-        -- what stands at another path is as it is when the object at this one is at work
+        -- the object at another path is as it is when the object at this one is at work
         beside : (w : Files) → Adjusting at sets u w → (q : Path) → same_path at q ≡ false → object_states_of (places w) q ≡ option_map object_state_of (each_at (become now sets) front (places t) q)
         beside w h q d =
             h.1 q ∙ ap (λ s. if s then run (take h.0 (parts sets)) (object_states_of (places u) q) else object_states_of (places u) q) d

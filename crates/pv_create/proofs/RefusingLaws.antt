@@ -1,16 +1,15 @@
 -- Laws of the refused place of a line at a path: that of what it copies comes first, then that of its path.
-use Rattle.std.specs.Prelude.{◌≡◌, ℕ, true, false, Option, Some, None, is_some, option_map, unwrap_or, if◌then◌else◌}
+use Rattle.std.specs.Prelude.{◌≡◌, true, false, Option, Some, None, is_some, option_map, unwrap_or, if◌then◌else◌}
 use Rattle.std.specs.Option.{option_map_or, option_or, option_and_then}
 use Rattle.std.proofs.Common.{sym, ap, ◌∙◌}
 use Rattle.pv_lines.specs.declared.line.Line.{Line}
 use Rattle.pv_lines.specs.declared.line.LineId.{LineId}
 use Rattle.pv_path.specs.Paths.{Path}
 use Rattle.pv_steps.specs.declared.object.Object.{Object}
-use Rattle.pv_steps.specs.declared.why.Why.{Why}
 use Rattle.pv_steps.specs.Trees.{Places}
 use Rattle.pv_table.specs.declared.action.Action.{Action}
 use Rattle.pv_table.specs.ActionTable.{action_of, id_for_new}
-use Rattle.pv_table.specs.Turns.{Refused, copied, has_something, named_refusal, owner_made, refused_at, source_owner, source_refusal}
+use Rattle.pv_table.specs.Turns.{Refused, copied, has_something, named_refusal, owner_made, refused_at, source_owner}
 use Rattle.pv_create.specs.Refusing.{source_refused}
 
 module _ (line : Line) (action : Action) (asked : action_of line ≡ action) (path : Path) (t : Places) where
@@ -36,14 +35,6 @@ module _ (line : Line) (action : Action) (asked : action_of line ≡ action) (pa
   pub owner_none : line.user ≡ None → unwrap_or (source_owner t action) 0 ≡ owner_made line t
   owner_none e =
       sym (ap (λ (u : Option LineId). unwrap_or (option_or (id_for_new u) (source_owner t (action_of line))) 0) e ∙ ap (λ (d : Action). unwrap_or (source_owner t d) 0) asked)
-
--- what a line copies is refused where its own path is
-pub source_is : (action : Action) (t : Places) (source : Path) → copied action ≡ Some source
-    → option_map (λ (place : ℕ × Why). Refused.source source place.0 place.1) (source_refusal t source) ≡ source_refused action t
-source_is action t source e = sym (ap (option_and_then (λ (s : Path). option_map (λ (place : ℕ × Why). Refused.source s place.0 place.1) (source_refusal t s))) e)
-
-pub source_none : (action : Action) (t : Places) → copied action ≡ None → None ≡ source_refused action t
-source_none action t e = sym (ap (option_and_then (λ (s : Path). option_map (λ (place : ℕ × Why). Refused.source s place.0 place.1) (source_refusal t s))) e)
 
 -- the owner of what it copies, and whether there is something to do
 pub owner_of : (action : Action) (t : Places) (source : Option Path) → copied action ≡ source

@@ -33,7 +33,7 @@ module _ (now : ℕ) (line : Line) (path : Path) (plain : has_staging path ≡ f
   unset (Adjust adjustment) h = impossible h
   unset Idle h = impossible h
 
-  -- preparing the path leaves what stands there
+  -- preparing the path leaves the object there
   found_here : (d : Action) → puts_parents (places t) d ≡ true → object_states_of (places (found now d path t)) path ≡ object_states_of (places t) path
   found_here (Create making) h = ready_here now path plain t (tree_shaped (places t) tree)
   found_here (Copy copying) h = ready_here now path plain t (tree_shaped (places t) tree)
@@ -46,7 +46,7 @@ module _ (now : ℕ) (line : Line) (path : Path) (plain : has_staging path ≡ f
       ∙ ap (λ (xs : List Operation). run (take k (parts xs)) (object_states_of (places t) path)) (unset (action_of line) puts) ∙ none_done k (object_states_of (places t) path)
   midway_here (IsMidway.parent h above none e) = absurd (above.1 refl)
 
-  -- what stands at the path stays where what makes way there does
+  -- the object at the path stays where what makes way there does
   until : ((s : Subtree) → subtree ≡ s → (CanReplace path s (found now (action_of line) path t) → Same (found now (action_of line) path t) u)
       → (AreDirectories path s (found now (action_of line) path t) → object_states (places u) path ≡ object_states (places (found now (action_of line) path t)) path)
       → object_states_of (places u) path ≡ object_states_of (places (found now (action_of line) path t)) path)

@@ -45,7 +45,7 @@ module _ (lines : List Line) (i place : ℕ) (within : i < length (create_order 
       let next : suc i ≡ i + 1 = omega arith in
       left_of lines (ordered (enumerate_from 0 lines)) (order_at lines) i place line within is at ∙ ap (λ n. line ∷ drop n (in_create_order lines)) next
 
--- ---- what a whole run leaves
+-- ---- what a complete run leaves
 
 -- it leaves nothing at the staging names of what it made
 pub none_staged : (lines : List Line) → AllByRecursion IsLine lines → (now : ℕ) (t : Files) → {A E : Type 0} (r : Result A E) (u : Files) → OnOk r (u ≡ created lines now t) → OnOk r (LeavesNoStagingName lines now t u)

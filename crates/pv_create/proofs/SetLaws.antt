@@ -1,4 +1,4 @@
--- Laws of what lines set of an object without its stamps: what it is in the end, and that what metadata has given of it
+-- Laws of what lines set of an object without its timestamps: what it is in the end, and that what metadata has given of it
 -- on the way is what the first of the sets give.
 use Rattle.std.specs.Prelude.{◌≡◌, ℕ, ◌+◌, Bool, true, false, ◌∷◌, ◌++◌, List, [], length, take, filter, Option, Some, if◌then◌else◌}
 use Rattle.std.specs.List.{list_any}

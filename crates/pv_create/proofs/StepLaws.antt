@@ -1,4 +1,4 @@
--- Each step of a run of lines gives its node what stands at one path after some of the lines.
+-- Each step of a run of lines gives its node the object at one path after some of the lines.
 use Rattle.std.specs.Prelude.{◌≡◌, ◌≢◌, ◌⊎◌, ℕ, ◌+◌, ◌≤◌, Bool, true, false, cond, not, ◌&&◌, ◌||◌, List, [], ◌∷◌, ◌++◌, length, take, drop, Option, Some, None, is_some, option_map, if◌then◌else◌}
 use Rattle.std.proofs.Common.{zero, suc, refl, sym, ap, subst, ◌∙◌, inl, inr, arith}
 use Rattle.std.proofs.Math.Seq.{drop-append_seam}
@@ -114,7 +114,7 @@ set_gives at b t step (inr (inr (inr (inr (inr h))))) = subst (Gives b) (sym h.0
 
 -- ---- one line
 
--- a step gives what stands at a path before a line or after it
+-- a step gives the object at a path before a line or after it
 record IsLeft (t u : Files) (step : Step) : Type 0 where
   pub path : Path
   pub plain : has_staging path ≡ false
@@ -302,7 +302,7 @@ names_plain line is p named = by line.path refl is.fits.path
     by (Glob pattern) e h = not-true (has_staging p) (any_holds _ (not (has_staging p)) (λ x g. (and_parts (not (has_staging p)) _ g).0) pattern (ap (λ (x : LinePath). names (record line { path = x }) p) (sym e) ∙ named))
 
 module _ (now : ℕ) (line : Line) (is : IsLine line) (adjustment : Adjustment) (e : action_of line ≡ Adjust adjustment) (adjust : list_all is_adjustment adjustment.sets ≡ true) (step : Step) where
-  -- a step gives what stands at a path after some turns
+  -- a step gives the object at a path after some turns
   record IsSet (u : Files) : Type 0 where
     pub path : Path
     pub plain : has_staging path ≡ false
@@ -385,7 +385,7 @@ module _ (now : ℕ) (line : Line) (safe : IsSafe line) (t : Files) (shape : IsS
 
 -- ---- a run
 
--- a step gives what stands at a path after the first k lines
+-- a step gives the object at a path after the first k lines
 record IsLeftBy (now : ℕ) (lines : List Line) (t : Files) (step : Step) : Type 0 where
   pub k : ℕ
   pub path : Path

@@ -1,4 +1,4 @@
--- A run of the lines of a table that was stopped: it is on its way as the laws of lines say, so that the next run mends it,
+-- A run of the lines of a table that was stopped: it is on its way as the laws of lines say, so that the next run completes it,
 -- no path is but between two lines, and what no line governs is as it was.
 use Rattle.std.specs.Prelude.{◌≡◌, ℕ, ◌^◌, ◌<◌, true, List, [], ◌∷◌, ◌++◌, length, take, drop}
 use Rattle.std.proofs.Common.{refl, sym, ap, subst, ◌∙◌}
@@ -14,11 +14,11 @@ use Rattle.pv_table.specs.Active.{are_distinct, in_create_order}
 use Rattle.pv_table.proofs.ListedLaws.{all_in_order}
 use Rattle.pv_steps.specs.Courses.{Partway}
 use Rattle.pv_laws.specs.Copying.{PartwayOf}
-use Rattle.pv_laws.proofs.AgainStops.{again_mended, stopped_then}
+use Rattle.pv_laws.proofs.AgainStops.{again_recovered, stopped_then}
 use Rattle.pv_laws.proofs.AllFrames.{stopped_frame}
 use Rattle.pv_laws.proofs.CopyWays.{copies_on_the_way}
 use Rattle.pv_laws.proofs.Shapes.{tree_shaped}
-use Rattle.pv_create.specs.Mended.{IsMended, IsMendedAgain, IsStoppedAgain}
+use Rattle.pv_create.specs.Recovery.{Recovers, RecoversAgain, IsStoppedAgain}
 use Rattle.pv_create.specs.OnTheWay.{IsFramed, IsStoppedBetween}
 use Rattle.pv_create.specs.Ways.{lines_course}
 use Rattle.pv_create.proofs.BridgeLaws.{run_way}
@@ -43,13 +43,13 @@ module _ (table : List Line) (are : AllByRecursion IsLine table) (Q : Step → T
   pub stopped : IsStoppedAgain table now t (drop (length h) k)
   stopped = λ s moments n repeatable before quiet. stopped_then table moments now s t (at_moment n) before (quiet, (at_moment n, tree_at n, way_at n, refl))
 
-  -- so all of them are mended by the next, and it alone
-  pub mended_again : are_distinct table ≡ true → IsMendedAgain table now t (drop (length h) k)
-  mended_again distinct = λ s moments n first later start repeatable before quiet again.
-      again_mended table are distinct repeatable (moments ++ now ∷ []) first later s (at_moment n) start (tree_at n) (stopped s moments n repeatable before quiet) again
+  -- so all of them recover by the next, and it alone
+  pub recovered_again : are_distinct table ≡ true → RecoversAgain table now t (drop (length h) k)
+  recovered_again distinct = λ s moments n first later start repeatable before quiet again.
+      again_recovered table are distinct repeatable (moments ++ now ∷ []) first later s (at_moment n) start (tree_at n) (stopped s moments n repeatable before quiet) again
 
-  pub mended : are_distinct table ≡ true → IsMended table now t (drop (length h) k)
-  mended distinct = λ n later repeatable quiet again. mended_again distinct t [] n now later tree repeatable refl quiet again
+  pub recovers : are_distinct table ≡ true → Recovers table now t (drop (length h) k)
+  recovers distinct = λ n later repeatable quiet again. recovered_again distinct t [] n now later tree repeatable refl quiet again
 
   -- at each moment each path is between two lines
   pub between : IsStoppedBetween table now t (drop (length h) k)

@@ -53,6 +53,6 @@ no_ready_work (Copy copying) path t none = cc
 no_ready_work (Adjust adjustment) path t none = refl
 no_ready_work Idle path t none = refl
 
--- where no step is done or refused, nothing was asked for
+-- if no step is done or refused, nothing was asked for
 pub none_asked : {A : Type 0} (r : Result A TreeFault) (steps : List Step) → refused r ≡ 0 → 1 ≤ asked r steps steps → ⊥
 none_asked r steps none one = omega (arith, none, one)

@@ -40,7 +40,7 @@ use Rattle.pv_create.specs.Turning.{Readying, IsReadyStep, ready_work, prepare_w
 use Rattle.pv_create.proofs.AbsentSource.{says_nothing}
 use Rattle.pv_create.proofs.PuttingLaws.{put_object_states}
 
--- ---- objects without stamps
+-- ---- objects without timestamps
 
 object_state_same : (a b : Option Object) → option_map object_state a ≡ option_map object_state b → option_map object_state_of a ≡ option_map object_state_of b
 object_state_same a b e = sym (again a) ∙ ap (option_map object_state_of) e ∙ again b
@@ -65,7 +65,7 @@ module _ (now : ℕ) (line : Line) (path : Path) (t : Files) (free : refused_at 
   module _ (u : Files) (is : found now (action_of line) path t ≡ u) (before : Preparing path t u)
       (sets : (operations : List Operation) (q : Path) → sets_at (action_of line) (Turn.Become operations) path q ≡ (if same_path path q then operations else []))
       (whole : (s : Subtree) → turn_at now line path t ≡ Turn.Put s → (q : Path) → object_states (places (turn_after now line path t)) q ≡ object_states (with_subtree 0 path s (places u)) q) where
-    -- the sets are of what stands at the path itself
+    -- the sets are of the object at the path itself
     sets_here : (operations : List Operation) → turn_at now line path t ≡ Turn.Become operations → (q : Path) → same_path path q ≡ true
         → sets_at (action_of line) (turn_at now line path t) path q ≡ operations
     sets_here operations e q same = ap (λ (v : Turn). sets_at (action_of line) v path q) e ∙ sets operations q ∙ ap (λ b. if b then operations else []) same
@@ -125,7 +125,7 @@ work_is now (Copy copying) path t h =
 work_is now (Adjust adjustment) path t h = (let same : adjust_work adjustment path t ≡ 0 + adjust_work adjustment path t = omega arith in same)
 work_is now Idle path t h = refl
 
--- where there is nothing to copy, nothing is done or said
+-- if there is nothing to copy, nothing is done or said
 nothing_done : (now : ℕ) (action : Action) (path : Path) (t : Files) → has_something (places t) action ≡ false → t ≡ carried_out now action path t
 nothing_done now (Create making) path t h = absurd (let no : true ≡ false = h in cc)
 nothing_done now (Copy copying) path t h =

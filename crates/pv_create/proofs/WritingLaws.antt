@@ -1,4 +1,4 @@
--- Laws of writing the bytes of a file: nothing is asked where it holds them, else one step gives them.
+-- Laws of writing the bytes of a file: nothing is asked where it holds them, otherwise one step gives them.
 use Rattle.std.specs.Prelude.{◌≡◌, ◌≢◌, ℕ, Bool, true, false, List, Option, Some, None, option_map, Result, Ok, Err, OnOk, if◌then◌else◌}
 use Rattle.std.proofs.Common.{refl, sym, ap, subst, ◌∙◌, inl, inr}
 use Rattle.std.proofs.lemmas.Option.{same_Some}
@@ -22,7 +22,7 @@ use Rattle.pv_create.specs.Adjusting.{GivesBytes, holding, written}
 
 -- ---- nothing to write
 
--- a change that keeps what stands at the path changes nothing
+-- a change that keeps the object at the path changes nothing
 pub unchanged : (path : Path) (f : Object → Object) (t : Places) → ((o : Object) → t path ≡ Some o → f o ≡ o) → t ≡ on_at path f t
 unchanged path f t keeps = λ j q. by q j
   where

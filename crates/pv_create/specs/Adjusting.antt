@@ -19,7 +19,7 @@ use Rattle.pv_walk.specs.Nodes.{object_state_of, object_states_of}
 use Rattle.pv_walk.specs.Operations.{run}
 use Rattle.pv_create.specs.declared.wanted.Wanted.{Wanted}
 
--- on the way, stamps aside: the first of the sets, in parts, are done to the object at the path, and nothing else has
+-- on the way, timestamps aside: the first of the sets, in parts, are done to the object at the path, and nothing else has
 -- changed
 abbrev pub Adjusting : Path → List Operation → Files → Files → Type 0
 Adjusting path sets t u =
@@ -49,7 +49,7 @@ pub record Wears (new : Metadata) (node : Node) : Type 0 where
 
 -- ---- bytes
 
--- an object that holds some bytes, stamps left as they are; where none are wanted it holds its own
+-- an object that holds some bytes, timestamps left as they are; where none are wanted it holds its own
 abbrev pub holding : Option (List ℕ) → Object → Object
 holding None o = o
 holding (Some bytes) o = record o { payload = bytes }

@@ -25,7 +25,7 @@ meant action view (answer.Left kind) = Turn.Left kind
 meant action view answer.Put = Turn.Put (subtree_of action view)
 meant action view answer.Become = Turn.Become (sets_of action)
 
--- where what stands there stays
+-- where the object there stays
 abbrev pub kept_turn : Kind → Kind → Answer
 kept_turn wanted kind = if same_kind wanted kind then answer.Become else answer.Left kind
 

@@ -7,5 +7,5 @@ pub mod Deciding
 pub mod Turning
 pub mod OnWay
 pub mod Ways
-pub mod Mended
+pub mod Recovery
 pub mod OnTheWay

@@ -1,4 +1,4 @@
--- What a run of the create phase has left when it is stopped, whether a whole run would mend it or not, and what each of
+-- What a run of the create phase has left when it is stopped, whether a complete run would complete it or not, and what each of
 -- its steps gives (tmpfiles.d(5)).
 use Rattle.std.specs.Prelude.{◌≡◌, ℕ, false, List, take, Some}
 use Rattle.std.specs.FinMap as fin
@@ -22,12 +22,12 @@ use Rattle.pv_table.specs.Reaching.{governs}
 use Rattle.pv_table.specs.Repeatable.{IsRepeatable}
 
 -- a run of lines from a tree, stopped after any of its steps, has left each path that no line governs as it was, whatever
--- was refused; stamps and staging names aside
+-- was refused; timestamps and staging names aside
 abbrev pub IsFramed : List Line → ℕ → Files → List Step → Type 0
 IsFramed lines now t steps = (n : ℕ) (q : Path) → has_staging q ≡ false → list_any (λ line. governs line q) lines ≡ false →
     object_states_of (places (after_all t (take n steps) now)) q ≡ object_states_of (places t) q
 
--- where no line has a reason, and a whole run refuses none at a turn, each path is there as after some lines or after one
+-- if no line has a hazard, and a complete run refuses none at a turn, each path is there as after some lines or after one
 -- more, as far as walks look at it
 abbrev pub IsStoppedBetween : List Line → ℕ → Files → List Step → Type 0
 IsStoppedBetween lines now t steps = (n : ℕ) (s : ObjectStates) → IsRepeatable lines → IsQuiet lines now t → Agree s t →
@@ -36,7 +36,7 @@ IsStoppedBetween lines now t steps = (n : ℕ) (s : ObjectStates) → IsRepeatab
 -- ---- single steps
 
 -- a Make step makes an object of the kind, the target and the numbers that an object has; a Write or Set step gives its node
--- what the object has; no step sets stamps, and any other gives nothing
+-- what the object has; no step sets timestamps, and any other gives nothing
 abbrev pub Gives : ObjectState → Step → Type 0
 Gives b (MakeDir at) = b.body.kind ≡ Directory
 Gives b (MakeFile at) = b.body.kind ≡ File
@@ -52,7 +52,7 @@ Gives b (SetLetters at letters) = letters ≡ b.metadata.letters
 Gives b (SetStamps at access modify) = ⊥
 Gives b step = Unit {0}
 
--- what stands at one path after some of the lines
+-- the object at one path after some of the lines
 pub record IsGiven (lines : List Line) (s : ObjectStates) (step : Step) : Type 0 where
   pub k : ℕ
   pub path : Path
@@ -60,7 +60,7 @@ pub record IsGiven (lines : List Line) (s : ObjectStates) (step : Step) : Type 0
   pub there : fin.get (state lines k s) path ≡ Some object
   pub gives : Gives object step
 
--- where no line has a reason, and a whole run refuses none at a turn, each step gives its node what stands at one path
+-- if no line has a hazard, and a complete run refuses none at a turn, each step gives its node the object at one path
 -- after some of the lines
 abbrev pub GiveWhatLinesLeave : List Line → ℕ → Files → List Step → Type 0
 GiveWhatLinesLeave lines now t steps = (s : ObjectStates) → IsRepeatable lines → IsQuiet lines now t → Agree s t →

@@ -1,4 +1,4 @@
--- What a line may have left on its way at a path, stamps and staging names aside, and which steps it may do
+-- What a line may have left on its way at a path, timestamps and staging names aside, and which steps it may do
 -- (tmpfiles.d(5)).
 use Rattle.std.specs.Prelude.{◌≡◌, ℕ, ◌+◌, ◌≤◌, Bool, true, false, List, [], length, take, Option, Some, None, if◌then◌else◌}
 use Rattle.pv_walk.specs.declared.object_state.ObjectState.{ObjectState}
@@ -32,7 +32,7 @@ use Rattle.pv_create.specs.Reached.{AdjustingInOrder, GivesReached}
 
 -- ---- what is done
 
--- what a line that is not refused does at a path: nothing where there is nothing to copy
+-- what a line that is not refused does at a path: nothing if there is nothing to copy
 abbrev pub turn_at : ℕ → Line → Path → Files → Turn
 turn_at now line path t =
     if has_something (places t) (action_of line) then decide (action_of line) (view_of (found now (action_of line) path t)) path
@@ -44,7 +44,7 @@ puts_parents t (Create making) = true
 puts_parents t (Copy copying) = has_something t (Copy copying)
 puts_parents t action = false
 
--- what is set of what stands at a path, by a line that is carried out at the same path or above it
+-- what is set of the object at a path, by a line that is carried out at the same path or above it
 abbrev pub sets_at : Action → Turn → Path → Path → List Operation
 sets_at (Adjust adjustment) turn path q = if is_adjusted adjustment path q then adjustment.sets else []
 sets_at action (Turn.Become operations) path q = if same_path path q then operations else []
@@ -52,7 +52,7 @@ sets_at action turn path q = []
 
 -- ---- on the way
 
--- what stands at one path while a line is at work, from what stood there: what the first of the sets, in parts, make of
+-- the object at one path while a line is at work, from what stood there: what the first of the sets, in parts, make of
 -- it; or above the path of the line a parent where nothing stood
 pub data IsMidway (now : ℕ) (line : Line) (path : Path) (t : Files) (q : Path) (old new : Option ObjectState) : Type 0 where
   set : (k : ℕ) → new ≡ run (take k (parts (sets_at (action_of line) (turn_at now line path t) path q))) old → IsMidway now line path t q old new
@@ -82,7 +82,7 @@ pub data OnWay (now : ℕ) (line : Line) (path : Path) (t u : Files) : Type 0 wh
 -- ---- single steps
 
 -- a step of a line that makes or copies something, at a path: it prepares the path; it stages or publishes the new object,
--- or the copy; or it gives what stands there what it has when all is set
+-- or the copy; or it gives the object there what it has when all is set
 pub data IsStepOf (now : ℕ) (line : Line) (path : Path) (t : Files) (step : Step) : Type 0 where
   prepares : puts_parents (places t) (action_of line) ≡ true → IsPrepareStep path t step → IsStepOf now line path t step
   puts : (making : Making) (subtree : Subtree) → action_of line ≡ Create making → turn_at now line path t ≡ Turn.Put subtree

@@ -14,7 +14,7 @@ use Rattle.pv_table.specs.declared.action.Adjustment.{Adjustment}
 use Rattle.pv_table.specs.Effects.{is_adjusted}
 use Rattle.pv_create.specs.Adjusting.{GivesSet}
 
--- on the way of one object, stamps aside: it is as it was, or, where the line reaches it, the first of the sets, in parts,
+-- on the way of one object, timestamps aside: it is as it was, or, where the line reaches it, the first of the sets, in parts,
 -- are done
 pub data IsPartSet (reached : Bool) (sets : List Operation) (old new : Option ObjectState) : Type 0 where
   kept : new ≡ old → IsPartSet reached sets old new

@@ -1,4 +1,4 @@
-//! What is done at a path that a line names, by what stands there.
+//! The decision what a line does at a path that it names, by the object there.
 ghost use Rattle.std.specs.Prelude.{◌≡◌, ◌≢◌, ◌&&◌, not, ◌||◌, true, Some, IfOk};
 ghost use Rattle.std.specs.List.{list_all};
 ghost use Rattle.std.specs.Option.{option_map_or};
@@ -26,11 +26,11 @@ use std::alloc::{AllocError, Global};
 pub(crate) enum Turn {
     /// Nothing.
     Nothing,
-    /// What stands there is of this kind, and is left.
+    /// The object there is of this kind, and is left as it is.
     Left(Kind),
-    /// What the line makes or copies is put there, in the place of what stands there.
+    /// What the line makes or copies is put there, in place of the old object.
     Put,
-    /// What stands there is adjusted.
+    /// The object there is adjusted.
     Become,
 }
 
@@ -95,7 +95,7 @@ fn making_over<T: Tree>(tree: &T, path: &TreePath, node: &Node, making: &Making)
     }
 }
 
-/// What is done where what stands at the path stays.
+/// What is done if the object at the path stays.
 fn kept_turn(wanted: Kind, kind: Kind) -> Turn
     ensures { result ≡ kept_turn wanted kind }
 {
@@ -106,7 +106,7 @@ fn kept_turn(wanted: Kind, kind: Kind) -> Turn
     }
 }
 
-/// Whether what stands at a path stays.
+/// Whether the object at a path stays.
 fn stays<T: Tree>(tree: &T, path: &TreePath, node: &Node, making: &Making) -> bool
     requires node { Some node.now ≡ node_at (T.state tree.now) path.now }
     ensures { (o : ObjectValue) → places (T.state tree.now) path.now ≡ Some o → result
@@ -123,7 +123,7 @@ fn stays<T: Tree>(tree: &T, path: &TreePath, node: &Node, making: &Making) -> bo
     }
 }
 
-/// Whether what stands at a path has the target or the numbers of a new object.
+/// Whether the object at a path has the target or the device numbers of a new object.
 fn has_substance<T: Tree>(tree: &T, path: &TreePath, node: &Node, new: &NewFile) -> bool
     requires node { Some node.now ≡ node_at (T.state tree.now) path.now }
     ensures { (o : ObjectValue) → places (T.state tree.now) path.now ≡ Some o
@@ -135,7 +135,7 @@ fn has_substance<T: Tree>(tree: &T, path: &TreePath, node: &Node, new: &NewFile)
         && minor == node.minor
 }
 
-/// Whether a link at a path has a target; what is no link needs none.
+/// Whether a link at a path has a target. It is true of an object that is not a link.
 fn has_target<T: Tree>(tree: &T, path: &TreePath, kind: Kind, target: &[u8]) -> bool
     requires kind { Some kind ≡ kind_of (places (T.state tree.now) path.now) }
     ensures { (o : ObjectValue) → places (T.state tree.now) path.now ≡ Some o
@@ -185,7 +185,7 @@ fn kept_copy(copying: &Copying, kind: Kind, there: Kind, empty: bool) -> Turn
     }
 }
 
-/// Whether what stands at a path gives way to what is copied, as one directory to another: it holds nothing.
+/// Whether the object at a path is replaced by a copied directory, which it is if it is an empty directory.
 fn gives_way<T: Tree>(
     alloc: Global,
     tree: &T,

@@ -11,11 +11,10 @@ ghost use Rattle.pv_steps.specs.declared.object.Object.{Object as ObjectValue};
 ghost use Rattle.pv_steps.specs.Objects.{is_directory};
 ghost use Rattle.pv_steps.specs.Trees.{places, kind_of, node_at, IsPresent, IsTree};
 
-use crate::wanted::node_of;
 use pv_acl::{AclLine, How, Part, apply_entries};
 use pv_path::{Bytes, TreePath};
-use pv_steps::{Kind, Node, Tree, special_bits};
-use pv_walk::{Change, Operation, admits, masked_special, set_masked_base};
+use pv_steps::{Kind, Node, Tree, node_of, special_bits};
+use pv_walk::{Change, Operation, admits, is_same_base, masked_special, set_masked_base};
 use std::alloc::{AllocError, Global};
 
 /// Whether all that is set leaves the object at a path as it is. Bytes added, extended attributes and letters are not
@@ -85,7 +84,7 @@ fn keeps<T: Tree>(
     }
 }
 
-/// Whether a file at a path holds bytes; what is no file need not.
+/// Whether a file at a path holds bytes. It is true of an object that is not a file.
 fn holds<T: Tree>(tree: &T, path: &TreePath, kind: Kind, bytes: &Bytes) -> bool
     requires kind { Some kind ≡ kind_of (places (T.state tree.now) path.now) }
     ensures { IsTrue result → (o : ObjectValue) → places (T.state tree.now) path.now ≡ Some o
@@ -104,7 +103,7 @@ fn is_same(a: &[u8], b: &[u8]) -> bool
     a == b
 }
 
-/// Whether an object has an owner and an owning group, each where it is given.
+/// Whether an object has an owner and an owning group, each if it is given.
 fn has_owners(node: &Node, uid: Option<u32>, gid: Option<u32>) -> bool
     ensures { IsTrue result → (unwrap_or uid node.now.uid ≡ node.now.uid) × (unwrap_or gid node.now.gid ≡ node.now.gid) }
 {
@@ -137,13 +136,6 @@ fn base_after(alloc: Global, part: &Part, mode: u16, masked: bool) -> Part
         base.set_base(mode);
     }
     base
-}
-
-/// Whether the base entries of two parts are the same.
-fn is_same_base(a: &Part, b: &Part) -> bool
-    ensures { IsTrue result → SameBase a.now b.now }
-{
-    a.owner == b.owner && a.group == b.group && a.other == b.other
 }
 
 /// Whether the entries of a line leave the ACL of an object as it is.

@@ -1,4 +1,4 @@
-//! Laws of what a run of lines leaves on its way. Each function does nothing; its contract is the law.
+//! Laws of the intermediate states of creating. Each function does nothing; its contract is the law.
 ghost use Rattle.std.specs.Prelude.{◌≡◌, ◌⊎◌, ℕ, List, true, false};
 ghost use Rattle.std.specs.List.{AllByRecursion};
 ghost use Rattle.pv_walk.specs.Nodes.{object_states_of};
@@ -23,8 +23,9 @@ ghost use Rattle.pv_layers.specs.Places.{is_input};
 ghost use Rattle.pv_table.specs.Repeatable.{HasReason};
 ghost use Rattle.pv_create.specs.Ways.{lines_course};
 
-/// Lines none of which may change what lines are read from leave, at each moment on their way and whatever is refused,
-/// presence, kind and payload at each path from which lines are read, staging names aside.
+/// Creating keeps what lines are read from, if no line may change that. In each intermediate state, whatever is
+/// refused, presence, kind and payload are as before at each path from which lines are read. Staging names are left
+/// out.
 pub fn a_run_leaves_what_lines_are_read_from()
     ensures { (lines : List LineValue) (now : ℕ) (t u : Files) (q : Path) → IsTree t → IsTree u
         → AllByRecursion IsLine lines → ((i : ℕ) → HasReason lines i reason.Input → ⊥)
@@ -41,9 +42,9 @@ pub fn the_steps_of_a_run_leave_what_lines_are_read_from()
         → content_of (places (after_all t steps now) q) ≡ content_of (places t q) }
 {}
 
-/// Where one Rename can put what a line makes or copies in the place of what stands at its path, the path has at each moment
-/// on the way of the line what stood there or what the line leaves there, timestamps aside: so a link or a file that
-/// another link or file replaces is never absent.
+/// A link or a file that another link or file replaces is never absent. Suppose that one Rename can put what a line
+/// makes or copies in place of the object at its path. Then in each intermediate state of the line the path has the
+/// object from before or the one that the line leaves. Timestamps are left out.
 pub fn what_one_rename_can_replace_is_never_absent()
     ensures { (now : ℕ) (line : LineValue) (path : Path) (t u : Files) (subtree : Subtree) → IsTree t → has_staging path ≡ false
         → puts_parents (places t) (action_of line) ≡ true → turn_at now line path t ≡ Turn.Put subtree
@@ -52,9 +53,9 @@ pub fn what_one_rename_can_replace_is_never_absent()
         ⊎ (object_states_of (places u) path ≡ object_states_of (places (turn_after now line path t)) path) }
 {}
 
-/// Where a line makes a directory or copies one to a path at which a directory stands, the path has at each moment on the way
-/// of the line what stood there or what the line leaves there, timestamps aside, whatever is in the old directory: so the
-/// directory is never absent.
+/// A directory that a directory replaces is never absent. Suppose that a line makes or copies a directory to a path
+/// with a directory. Then in each intermediate state of the line the path has the directory from before or the one that
+/// the line leaves, whatever is in the old one. Timestamps are left out.
 pub fn a_directory_that_a_directory_replaces_is_never_absent()
     ensures { (now : ℕ) (line : LineValue) (path : Path) (t u : Files) (subtree : Subtree) → IsTree t → has_staging path ≡ false
         → puts_parents (places t) (action_of line) ≡ true → turn_at now line path t ≡ Turn.Put subtree

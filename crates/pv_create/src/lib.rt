@@ -1,4 +1,5 @@
-//! The create phase: the lines of a table, each carried out at its turn, so that a run cut short is mended by the next.
+//! The create phase (tmpfiles.d(5)). Each line of a table is carried out at its turn. A stopped run recovers when it is
+//! run again.
 #![tactic(auto)]
 
 mod deciding;

@@ -1,5 +1,5 @@
 //! Adjusting one object.
-ghost use Rattle.std.specs.Prelude.{◌≡◌, ◌↔◌, ◌≤◌, IsTrue, None, IfSome, OnOk};
+ghost use Rattle.std.specs.Prelude.{◌≡◌, ◌↔◌, ◌≤◌, IsTrue, IfSome, OnOk};
 ghost use Rattle.pv_path.specs.Names.{same_bytes};
 ghost use Rattle.pv_steps.specs.declared.node.Kind.TheVariants.{File};
 ghost use Rattle.pv_steps.specs.Acting.{asked, Acted};
@@ -13,14 +13,14 @@ ghost use Rattle.pv_create.specs.Sets.{AreSets};
 ghost use Rattle.pv_create.specs.Adjusting.{Adjusting, GivesSet, GivesWanted, HasBase, Wears, holding, written};
 
 use crate::kept::are_kept;
-use crate::wanted::{node_of, wanted_at};
+use crate::wanted::wanted_at;
 use pv_path::{Bytes, TreePath};
-use pv_steps::{Node, Step, Tree, TreeFault, try_step};
+use pv_steps::{Node, Step, Tree, TreeFault, node_of, try_step};
 use pv_walk::{Metadata, Operation, set_metadata};
 use std::alloc::Global;
 
 /// Adjusts the object at a path: its bytes, owner, mode, ACL, extended attributes and letters, in this order, each
-/// only where that changes something (tmpfiles.d(5)). The bytes of a file are read only where bytes are among what is
+/// only if that changes something (tmpfiles.d(5)). The bytes of a file are read only if bytes are among what is
 /// set. Of an object that has all of it one look mostly tells.
 pub(crate) fn adjust<T: Tree>(
     alloc: Global,
@@ -32,7 +32,7 @@ pub(crate) fn adjust<T: Tree>(
     requires present { IsPresent (T.state tree.old) path.now }
     requires sets { AreSets sets.now }
 
-    // The object becomes what the sets make of it, stamps included, and nothing else changes.
+    // The object becomes what the sets make of it, timestamps included, and nothing else changes.
     ensures ok { OnOk result (places (T.state tree.new)
         ≡ on_at path.now (become now sets.now) (places (T.state tree.old))) }
 

@@ -15,8 +15,8 @@ use pv_table::Adjustment;
 use pv_walk::below;
 use std::alloc::{AllocError, Global};
 
-/// Adjusts what stands at a path, and with a line that goes down all below it, staging names left out: the path first,
-/// then its children in byte order, each with all below it (tmpfiles.d(5), Z, A, T and H).
+/// Adjusts the object at a path, and with a recursive line all below it, without staging names (tmpfiles.d(5), Z, A, T
+/// and H). The path comes first, then its children in byte order, each with all below it.
 pub(crate) fn adjust_reached<T: Tree>(
     alloc: Global,
     tree: &mut T,
@@ -39,7 +39,7 @@ pub(crate) fn adjust_reached<T: Tree>(
     }
 }
 
-/// Adjusts what stands at each path that a line reaches from one, in their order.
+/// Adjusts the object at each path that a line reaches from one, in their order.
 fn adjust_each<T: Tree>(
     alloc: Global,
     tree: &mut T,

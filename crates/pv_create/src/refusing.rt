@@ -24,7 +24,7 @@ pub(crate) enum Refused<'a> {
     Named(&'a TreePath, u32, Why),
 }
 
-/// The place at which a line is refused: of what it copies, or else, where there is something to do, of its path.
+/// The place at which a line is refused: of what it copies, or else, if there is something to do, of its path.
 pub(crate) fn refusal<'a, T: Tree>(
     alloc: Global,
     tree: &T,
@@ -92,7 +92,7 @@ fn named_refusal<'a, T: Tree>(
     }
 }
 
-/// The owner that an absent last place counts as: the line's user, else that of what it copies, else root.
+/// The owner that an absent last place counts as: the line's user, otherwise that of what it copies, otherwise root.
 fn owner_made<T: Tree>(tree: &T, at: &LineAt<'_>) -> u32
     requires { action_of at.now.line.now ≡ at.now.action.now }
     ensures { result ≡ owner_made at.entry.now.line.now (places (T.state tree.now)) }
@@ -113,7 +113,7 @@ fn source_owner<T: Tree>(tree: &T, action: &Action) -> u32
     }
 }
 
-/// The owner of what stands at a path, root where nothing does.
+/// The owner of the object at a path, or root if it is absent.
 fn owner_at<T: Tree>(tree: &T, path: &TreePath) -> u32
     ensures { result ≡ unwrap_or (option_map (λ o. o.node.uid) (places (T.state tree.now) path.now)) 0 }
 {

@@ -17,11 +17,11 @@ use pv_text::Messages;
 use pv_walk::prepare;
 use std::alloc::Global;
 
-/// Carries out a line at a path (tmpfiles.d(5)). A refused line does nothing but say so: the places above what it copies
-/// are looked at before its own path. Where there is nothing to copy, nothing is done. Else a line that makes something or
-/// copies takes away what an earlier run has staged along the path and puts absent parents. Then it does, by what stands
-/// at the path: puts the new object or the copy, in the place of what gives way; adjusts what is there; or leaves an
-/// object of another kind and says so.
+/// Carries out a line at a path (tmpfiles.d(5)). A refused line says so and does nothing else; the parents of a copy's
+/// source are looked at before its own path. If there is nothing to copy, nothing is done. Otherwise a line that makes
+/// or copies an object removes what an earlier run has staged along the path, and makes absent parents. Then it puts
+/// the new object or the copy in place of the old object, adjusts the object, or leaves an object of another kind and
+/// says so.
 pub(crate) fn at_turn<T: Tree>(
     alloc: Global,
     tree: &mut T,
@@ -44,8 +44,8 @@ pub(crate) fn at_turn<T: Tree>(
     Ok(Carried::Whole)
 }
 
-/// Makes a path ready for what a line that is not refused does there: one that makes something or copies takes away what
-/// an earlier run has staged along it, and puts absent parents.
+/// Makes a path ready for a line that is not refused. A line that makes or copies an object removes what an earlier run
+/// has staged along the path, and makes absent parents.
 fn get_ready<T: Tree>(alloc: Global, tree: &mut T, at: &LineAt<'_>) -> Result<(), TreeFault>
     requires at { IsLineAt at.now (T.state tree.old) }
     requires unrefused { refused_at at.now.line.now at.now.path.now (places (T.state tree.old)) ≡ None }

@@ -1,14 +1,14 @@
 //! What an object is to have after it is adjusted.
 ghost use Rattle.std.specs.Prelude.{◌≡◌, Some, IfOk};
 ghost use Rattle.pv_steps.specs.declared.object.Object.{Object as ObjectValue};
-ghost use Rattle.pv_steps.specs.Trees.{places, node_at, IsPresent, IsTree};
+ghost use Rattle.pv_steps.specs.Trees.{places, IsPresent, IsTree};
 ghost use Rattle.pv_walk.specs.Operations.{run};
 ghost use Rattle.pv_walk.specs.Reasons.{is_adjusting};
 ghost use Rattle.pv_create.specs.Sets.{is_writing, writes, AreSets};
 ghost use Rattle.pv_create.specs.Adjusting.{IsWanted};
 
 use pv_path::{Bytes, TreePath};
-use pv_steps::{Kind, Node, Tree};
+use pv_steps::{Kind, Tree, node_of};
 use pv_walk::{Change, Metadata, ObjectState, Operation, run_operations};
 use std::alloc::{AllocError, Global};
 
@@ -21,7 +21,7 @@ pub(crate) struct Wanted {
     pub metadata: Metadata,
 }
 
-/// What the object at a path is to have. The bytes of a file are looked at only where bytes are among what is set.
+/// What the object at a path is to have. The bytes of a file are looked at only if bytes are among what is set.
 pub(crate) fn wanted_at<T: Tree>(
     alloc: Global,
     tree: &T,
@@ -78,16 +78,4 @@ fn is_writing(operation: &Operation) -> bool
             ..
         }
     )
-}
-
-/// The node at a path where an object stands.
-pub(crate) fn node_of<'a, T: Tree>(tree: &'a T, path: &TreePath) -> &'a Node
-    requires { IsPresent (T.state tree.now) path.now }
-    ensures node { Some result.now ≡ node_at (T.state tree.now) path.now }
-    ensures tree { IsTree (T.state tree.now) }
-{
-    match tree.look(path) {
-        Some(node) => node,
-        None => unreachable!(),
-    }
 }

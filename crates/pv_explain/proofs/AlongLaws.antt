@@ -1,4 +1,4 @@
--- What a line leaves at a path and above it depends on what stands there alone, unless it copies.
+-- What a line leaves at a path and above it depends on the object there alone, unless it copies.
 use Rattle.std.specs.Prelude.{◌≡◌, true, false, ◌&&◌, [], ◌∷◌, Some, None, is_some}
 use Rattle.std.proofs.Common.{sym, ap, subst, ◌∙◌, inl, inr}
 use Rattle.std.specs.FinMap as fin

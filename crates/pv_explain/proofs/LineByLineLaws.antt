@@ -91,7 +91,7 @@ module _ (lines : List Line) where
 
 -- ---- what is followed
 
--- it has at the path what stands there
+-- it has at the path the object there
 pub follows_path : (lines : List Line) (scope : Scope) (path : Path) → Fits scope path lines → (r s : ObjectStates) → Follows scope path r s → fin.get r path ≡ fin.get s path
 follows_path lines (Along places) path fits r s f = f.same path (is_prefix-refl path)
 follows_path lines (Within region) path fits r s f = f.same path (holds_path lines path region fits)

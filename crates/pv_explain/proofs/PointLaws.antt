@@ -1,4 +1,4 @@
--- What a line leaves at some paths depends on what stands there alone, where all above them are among them and what it
+-- What a line leaves at some paths depends on the object there alone, where all above them are among them and what it
 -- copies is there too.
 use Rattle.std.specs.Prelude.{◌≡◌, ◌≢◌, ℕ, Bool, true, false, not, cond, ◌&&◌, ◌||◌, List, [], ◌∷◌, ◌++◌, length, take, map, Option, Some, None, is_some, option_map, unwrap_or}
 use Rattle.std.proofs.Common.{refl, sym, ap, subst, ◌∙◌, append_assoc}
@@ -195,7 +195,7 @@ module _ (line : Line) (s : ObjectStates) (root : is_some (fin.get s []) ≡ tru
       by None f g = none (adjusts_path line adjustment q) g
       by (Some x) f g = keyed (ap is_some f)
 
-  -- what a line leaves at a path, from what stands at all
+  -- what a line leaves at a path, from the object at all
   pub pointed : fin.get (pointwise_after s line) q ≡ point line s q
   pointed = get-tabulated (point_paths line s ++ fin.keys s) (point line s) q (by (action_of line) refl)
     where
@@ -326,7 +326,7 @@ module _ (held : Path → Bool) (up : (p q : Path) → is_prefix p q ≡ true �
   root_there : is_some (fin.get r []) ≡ true
   root_there = ap is_some (within.same [] within.top) ∙ within.root
 
-  -- so it can be carried out on what stands at these paths
+  -- so it can be carried out on the objects at these paths
   pub within_after : ((copying : Copying) → action_of line ≡ Copy copying → (q : Path) → held q ≡ true → point line r q ≡ point line s q) → IsWithin held (pointwise_after r line) (pointwise_after s line)
   within_after copies = record {
     top = within.top;

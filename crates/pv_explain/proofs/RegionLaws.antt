@@ -1,4 +1,4 @@
--- In a closed region what a line leaves depends on what stands there alone.
+-- In a closed region what a line leaves depends on the object there alone.
 use Rattle.std.specs.Prelude.{◌≡◌, ◌⊎◌, ℕ, ◌<◌, Bool, true, false, not, cond, ◌&&◌, ◌||◌, List, [], ◌∷◌, ◌++◌, map, filter, find, length, slice_get, Option, Some, None, IfSome, is_some, option_map}
 use Rattle.std.proofs.Common.{zero, suc, refl, sym, ap, subst, ◌∙◌, inl, inr, arith}
 use Rattle.std.proofs.lemmas.Bool.{and_parts, or_left, or_right}
@@ -177,7 +177,7 @@ module _ (region : Region) (line : Line) (held : HoldsCopy region line) (r s : O
           ∙ made_same (fin.get s source) refl
           ∙ sym (point_copy line copying s q e)
 
-  -- what a line leaves in the region, from what stands there alone
+  -- what a line leaves in the region, from the object there alone
   pub region_after : IsWithin (holds region) (pointwise_after r line) (pointwise_after s line)
   region_after = within_after (holds region) (holds_above region) line r s within (λ copying e q there. copy_same copying e q there)
 
@@ -280,14 +280,6 @@ module _ (f g h : Copied → Bool) (some : (x : Copied) → f x ≡ true → g x
       by false k m true p false q rest = absurd (true_not_false (g y) (less y p) q)
       by false k m false p true q rest = let n = rest m gone in omega (arith, n)
       by false k m false p false q rest = rest m gone
-
-  find_some : (xs : List Copied) (x : Copied) → find f xs ≡ Some x → f x ≡ true
-  find_some [] x e = absurd (let none : None ≡ Some x = e in cc)
-  find_some (y ∷ xs) x e = by (f y) refl e (find_some xs x)
-    where
-      by : (c : Bool) → f y ≡ c → cond c (Some y) (find f xs) ≡ Some x → (find f xs ≡ Some x → f x ≡ true) → f x ≡ true
-      by true k m rest = let same : y ≡ x = cc in ap f (sym same) ∙ k
-      by false k m rest = rest m
 
 -- where none is found, none passes
 pub none_found : (f : Copied → Bool) (xs : List Copied) → find f xs ≡ None → list_all (λ x. not (f x)) xs ≡ true

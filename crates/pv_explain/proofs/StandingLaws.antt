@@ -1,4 +1,4 @@
--- What stands at each path, held in a `BTreeMap`, as the finite map that clauses see.
+-- The object at each path, held in a `BTreeMap`, as the finite map that clauses see.
 use Rattle.std.proofs.Common.{◌≡◌, ◌∙◌, List, map, sym, ap}
 use Rattle.std.specs.BTreeMap.{is_at, insert_entry}
 use Rattle.std.specs.FinMap as fin

@@ -48,7 +48,7 @@ one_kept f (x ∷ xs) q e h = by (f x) refl (or_cases (same_path x q) (is_one_of
     by false k (inl same) rest = absurd (true_not_false (f x) (ap f ((same_path-decides x q).0 same) ∙ e) k)
     by false k (inr later) rest = rest later
 
--- what stands at and below some paths
+-- what is at and below some paths
 abbrev pub below_all : Files → List Path → List Path
 below_all t tops = flat_map (λ top. filter (is_prefix top) (fin.keys t)) tops
 
@@ -90,7 +90,7 @@ all_read t region q held there = by (or_cases (covers tops q || leads tops q) (l
     by (inl k) = one_left (below_all t tops ++ above_all tops) (above_all ends) q (first (or_cases (covers tops q) (leads tops q) k))
     by (inr k) = one_right (below_all t tops ++ above_all tops) (above_all ends) q (above_read ends q k)
 
--- ---- what stands there
+-- ---- the object there
 
 module _ (t : Files) where
   pub standing_is : (q : Path) → fin.get (standing t) q ≡ object_states_of (places t) q
@@ -104,7 +104,7 @@ module _ (t : Files) where
         by None e = absurd (let no : None ≡ Some Directory = e in cc)
         by (Some x) e = refl
 
-    -- what stands along a path is what stands there in the tree
+    -- what stands along a path is the object there in the tree
     pub stands_along : (path : Path) → IsAlong path (tabulated ([] ∷ path ∷ parents_of path) (object_states_of (places t))) (standing t)
     stands_along path = record {
       top = refl;
@@ -120,7 +120,7 @@ module _ (t : Files) where
       same = λ q here. get-tabulated paths (object_states_of (places t)) q (λ h. one_of-tied paths q ∙ all q here (sym (object_state_some (places t q)) ∙ h)) ∙ sym (standing_is q);
     }
 
-    -- where no line has a reason, what stands at a path after all lines is what a create run leaves there
+    -- if no line has a hazard, the object at a path after all lines is what a create run leaves there
     pub left_there : (lines : List Line) → AllByRecursion IsLine lines → (now : ℕ) → IsRepeatable lines → IsQuiet lines now t → (path : Path) → has_staging path ≡ false
         → last lines (standing t) path ≡ object_states_of (places (created lines now t)) path
     left_there lines are now repeatable quiet path plain = state_whole lines (all_safe lines are repeatable) now (standing t) t tree quiet (λ q unstaged. standing_is q) path plain

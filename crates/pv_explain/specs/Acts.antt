@@ -1,5 +1,5 @@
--- Which lines act on a path in the create phase, and what stands there at the end (tmpfiles.d(5)): by what lines leave at
--- each path by itself, stamps aside.
+-- Which lines act on a path in the create phase, and the object there at the end (tmpfiles.d(5)): by what lines leave at
+-- each path by itself, timestamps aside.
 use Rattle.std.specs.Prelude.{ℕ, ◌+◌, List, length, Option, Some, None, option_map, if◌then◌else◌}
 use Rattle.std.specs.FinMap as fin
 use Rattle.std.specs.List.{filter_map, enumerate_from}
@@ -16,11 +16,11 @@ use Rattle.pv_explain.specs.declared.explained.Act.{Act}
 use Rattle.pv_explain.specs.declared.explained.Act.TheVariants.{Makes, Removes, Changes}
 use Rattle.pv_explain.specs.declared.explained.LineAct.{LineAct}
 
--- all that stands in a tree, without stamps
+-- all that stands in a tree, without timestamps
 abbrev pub standing : Files → ObjectStates
 standing t = tabulated (fin.keys t) (object_states_of (places t))
 
--- what is done between what stands at a path before and after: nothing where it is the same
+-- what is done between the object at a path before and after: nothing if it is the same
 abbrev pub act_between : Option ObjectState → Option ObjectState → Option Act
 act_between None None = None
 act_between None (Some b) = Some Makes
@@ -39,10 +39,10 @@ line_act lines s path line = option_map (λ act. record { place = line.1.place; 
 abbrev pub acts : List Line → ObjectStates → Path → List LineAct
 acts lines s path = filter_map (line_act lines s path) (enumerate_from 0 (in_create_order lines))
 
--- what stands at a path after all lines
+-- the object at a path after all lines
 abbrev pub last : List Line → ObjectStates → Path → Option ObjectState
 last lines s path = fin.get (state lines (length (in_create_order lines)) s) path
 
--- a node and its payload, without stamps
+-- a node and its payload, without timestamps
 abbrev pub object_state_in : Node × List ℕ → ObjectState
 object_state_in object = object_state_of (record { node = object.0; payload = object.1 })

@@ -1,4 +1,4 @@
--- What is followed of what lines leave, to tell what stands at one path after each of them: what stands at this path and
+-- What is followed of what lines leave, to tell the object at one path after each of them: the object at this path and
 -- those above it, or in a region in which each copy has its source with it.
 use Rattle.std.specs.Prelude.{◌≡◌, Bool, true, false, not, ◌&&◌, ◌||◌, List, [], ◌∷◌, map, Option, IfSome, is_some, option_map}
 use Rattle.std.specs.FinMap as fin
@@ -63,7 +63,7 @@ pub record IsWithin (held : Path → Bool) (r s : ObjectStates) : Type 0 where
 abbrev pub IsAlong : Path → ObjectStates → ObjectStates → Type 0
 IsAlong path r s = IsWithin (λ q. is_prefix q path) r s
 
--- what is followed is what stands there
+-- what is followed is the object there
 abbrev pub Follows : Scope → Path → ObjectStates → ObjectStates → Type 0
 Follows (Along places) path r s = IsAlong path r s
 Follows (Within region) path r s = IsWithin (holds region) r s

@@ -1,4 +1,4 @@
-//! What stands at a path before and after a line, compared.
+//! Compares the objects at a path before and after a line.
 ghost use Rattle.std.specs.Prelude.{◌≡◌, ◌&&◌, ◌==◌, Some};
 ghost use Rattle.std.specs.Cmp.Lexicographic.{pointwise};
 ghost use Rattle.std.specs.Option.{option_copied};
@@ -11,7 +11,7 @@ use pv_path::Bytes;
 use pv_steps::{AttrList, LetterSet, Node, Stamps};
 use pv_walk::{Body, Metadata, ObjectState};
 
-/// What is done between what stands at a path before and after; nothing where it is the same.
+/// What is done between two objects at a path, before and after a line, or nothing if they are the same.
 pub(crate) fn act_between(before: Option<&ObjectState>, after: Option<&ObjectState>) -> Option<Act>
     ensures { result ≡ act_between (option_copied before.entry) (option_copied after.entry) }
 {
@@ -23,7 +23,7 @@ pub(crate) fn act_between(before: Option<&ObjectState>, after: Option<&ObjectSta
     }
 }
 
-/// What is done where something stands before and after; nothing where both are the same.
+/// What is done where something stands before and after; nothing if both are the same.
 fn changed(old: &ObjectState, new: &ObjectState) -> Option<Act>
     ensures { result ≡ act_between (Some old.now) (Some new.now) }
 {
@@ -80,7 +80,7 @@ fn are_same_letters(a: LetterSet, b: LetterSet) -> bool
 }
 
 /// A node and its payload; its timestamps are 0.
-pub(crate) fn node_of(object_state: ObjectState) -> (Node, Bytes)
+pub(crate) fn node_and_payload(object_state: ObjectState) -> (Node, Bytes)
     ensures { object_state_in result ≡ object_state }
 {
     let ObjectState { body, metadata } = object_state;

@@ -45,8 +45,8 @@ pub(crate) fn after_copying(
     }
 }
 
-/// Whether a copy comes to stand in the place of an object: a directory over a childless one anew, over what is of another
-/// kind where the line renews it.
+/// Whether a copy replaces an object. A copied directory replaces an empty directory. An object of another kind is
+/// replaced if the line renews it.
 fn is_replaced(copying: &Copying, childless: bool, source: Kind, old: Kind) -> bool
     ensures { result ≡ (if same_kind source old then is_directory source && childless else copying.now.renews) }
 {
@@ -57,7 +57,7 @@ fn is_replaced(copying: &Copying, childless: bool, source: Kind, old: Kind) -> b
     }
 }
 
-/// The copy of what stands at and below a path, at a rest, staging names left out.
+/// The copy of the object at a path with all below it, at a rest of names. Staging names are left out.
 fn copied(
     alloc: Global,
     copying: &Copying,

@@ -1,4 +1,4 @@
-//! What is told of one path.
+//! The explanation of one path.
 use pv_path::{Bytes, Sequence};
 use pv_steps::Node;
 use pv_text::Place;
@@ -26,7 +26,7 @@ pub struct LineAct {
 /// Acts of lines, in the order of the create phase.
 pub type ActList = Sequence<LineAct>;
 
-/// What lines do at a path in the create phase, and what stands there at the end.
+/// What lines do at a path in the create phase, and which object is there at the end.
 #[derive(Drop)]
 pub struct Explained {
     /// Each line that acts on the path.

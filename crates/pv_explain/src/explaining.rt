@@ -1,5 +1,5 @@
 //! What lines do at a path, one after the other.
-ghost use Rattle.std.specs.Prelude.{◌≡◌, ◌++◌, [], ℕ, false, true, Some, is_some, option_map, slice_get, IfOk, OnOk};
+ghost use Rattle.std.specs.Prelude.{◌≡◌, ◌++◌, [], ℕ, false, true, Some, is_some, option_map, IfOk, OnOk};
 ghost use Rattle.std.specs.List.{cons_option};
 ghost use Rattle.std.specs.Option.{option_copied};
 ghost use Rattle.pv_walk.specs.Nodes.{object_states_of};
@@ -14,7 +14,7 @@ ghost use Rattle.pv_explain.specs.declared.region.Region.{Region};
 ghost use Rattle.pv_explain.specs.Acts.{act_between, acts, object_state_in, last, standing};
 ghost use Rattle.pv_explain.specs.Following.{Fits, Follows, Tells};
 
-use crate::comparing::{act_between, node_of};
+use crate::comparing::{act_between, node_and_payload};
 use crate::explained::{ActList, Explained, LineAct};
 use crate::following::{Scope, after};
 use crate::region::{closed_region, paths_in};
@@ -28,8 +28,8 @@ use pv_table::{Table, create_order};
 use pv_walk::ObjectState;
 use std::alloc::{AllocError, Global};
 
-/// Which lines of a table act on a path in the create phase, in their order, and what stands there at the end
-/// (tmpfiles.d(5)). No step is done and no line refused: each path is judged by itself, timestamps aside.
+/// Explains a path: which lines of a table act on it in the create phase, in their order, and which object is there at
+/// the end (tmpfiles.d(5)). No step is done and no line is refused. Each path is judged by itself, without timestamps.
 pub fn explain<T: Tree>(
     alloc: Global,
     tree: &T,
@@ -39,11 +39,11 @@ pub fn explain<T: Tree>(
     // Exactly the lines before and after which something else stands at the path.
     ensures acts { IfOk result (λ explanation. explanation.acts ≡ acts table.now (standing (T.state tree.now)) path.now) }
 
-    // What stands there after all lines, and nothing exactly where nothing does.
+    // The object there after all lines, and nothing exactly if nothing does.
     ensures node { IfOk result (λ explanation. option_map object_state_in explanation.node
         ≡ last table.now (standing (T.state tree.now)) path.now) }
 
-    // Where no line has a reason this is what a create run leaves there, if it refuses no line.
+    // Where no line has a hazard this is what a create run leaves there, if it refuses no line.
     ensures leaves { IfOk result (λ explanation. (now : ℕ) → IsRepeatable table.now → IsQuiet table.now now (T.state tree.now)
         → has_staging path.now ≡ false
         → option_map object_state_in explanation.node ≡ object_states_of (places (created table.now now (T.state tree.now))) path.now) }
@@ -56,7 +56,7 @@ pub fn explain<T: Tree>(
     }
 }
 
-/// What is told by what stands at the path and above it; nothing where this does not tell it.
+/// The explanation by the objects at the path and above it, or nothing if they are not enough.
 fn explain_along<T: Tree>(
     alloc: Global,
     tree: &T,
@@ -71,7 +71,7 @@ fn explain_along<T: Tree>(
     follow(alloc, table, path, &Scope::Along(places), start)
 }
 
-/// What is told by what stands in a region in which each copy has its source with it.
+/// The explanation by the objects in a region in which each copy has its source with it.
 fn explain_within<T: Tree>(
     alloc: Global,
     tree: &T,
@@ -89,8 +89,8 @@ fn explain_within<T: Tree>(
     }
 }
 
-/// Follows the lines of a table in the order of the create phase; nothing where what is followed does not tell what stands
-/// at the path.
+/// Follows the lines of a table in the order of the create phase. The answer is nothing if the objects that are
+/// followed do not decide what is at the path.
 fn follow(
     alloc: Global,
     table: &Table,
@@ -107,7 +107,7 @@ fn follow(
     let mut standing = start;
     let mut acts = ActList::new(alloc);
     for place in order.as_slice() {
-        let line = line_at(table, *place);
+        let line = table.line_at(*place);
         let before = standing.copy_at(path)?;
         match after(alloc, line, path, scope, standing)? {
             Some(next) => standing = next,
@@ -118,30 +118,19 @@ fn follow(
     Ok(Some(ended(acts, standing.copy_at(path)?)))
 }
 
-/// What is told by the acts and by what stands at the path at the end.
+/// The explanation, by the acts and the object at the path at the end.
 fn ended(acts: ActList, last: Option<ObjectState>) -> Explained
     ensures acts { result.acts ≡ acts }
     ensures node { option_map object_state_in result.node ≡ last }
 {
     let node = match last {
-        Some(object_state) => Some(node_of(object_state)),
+        Some(object_state) => Some(node_and_payload(object_state)),
         None => None,
     };
     Explained { acts, node }
 }
 
-/// The line at a place of a table.
-fn line_at(table: &Table, place: usize) -> &Line
-    requires { is_some (slice_get table.now place) ≡ true }
-    ensures { slice_get table.now place ≡ Some result.now }
-{
-    match table.line(place) {
-        Some(line) => line,
-        None => unreachable!(),
-    }
-}
-
-/// Adds what a line does, if it does something, by what stands at the path before and after it.
+/// Adds what a line does, if it does something, by the object at the path before and after it.
 fn note(
     acts: &mut ActList,
     line: &Line,

@@ -28,7 +28,7 @@ pub(crate) enum Scope {
     Within(Region),
 }
 
-/// What stands after a line; nothing where what is followed does not tell it.
+/// What stands after a line; nothing if what is followed does not tell it.
 pub(crate) fn after(
     alloc: Global,
     line: &Line,
@@ -95,8 +95,8 @@ fn has(place: &TreePath, region: &Region, before: &Standing) -> bool
     !region.holds(place) || before.get(place).is_some()
 }
 
-/// What stands at a path and those above it after a line: one that changes nothing there is passed over, and what another
-/// copies is not told.
+/// The objects at a path and at its ancestors after a line. A line that changes nothing there is passed over. The
+/// answer is nothing for any other line that copies.
 fn after_along(
     alloc: Global,
     line: &Line,
@@ -127,8 +127,8 @@ fn copies(alloc: Global, line: &Line) -> Result<bool, AllocError>
     Ok(matches!(action, Action::Copy(_)))
 }
 
-/// Whether nothing is put at a path and above it by what is made at another: this does not lie above it, and those places
-/// above both are there.
+/// Whether making an object at one path puts nothing at another path or above it. This is so if the first does not lie
+/// above the second, and the ancestors of both are present.
 fn is_aside(own: &TreePath, path: &TreePath, places: &[TreePath], before: &Standing) -> bool
     ensures { result ≡ (not (is_prefix own.now path.now)
         && list_all (λ q. not (is_prefix q own.now) || is_some (fin.get before.now q)) places.now) }

@@ -1,4 +1,4 @@
-//! What a line leaves at a path, from what stands at all.
+//! What a line leaves at a path, by the objects at all paths.
 ghost use Rattle.std.specs.Prelude.{◌≡◌, ◌&&◌, not, Some, IfOk, is_some, unwrap_or, if◌then◌else◌};
 ghost use Rattle.std.specs.FinMap as fin;
 ghost use Rattle.pv_walk.specs.Operations.{run};

@@ -58,8 +58,8 @@ fn leads(ends: &[TreePath], path: &TreePath) -> bool
     ends.iter().any(|end| is_prefix(path, end))
 }
 
-/// A region that leads to a path and to all that lines copy, and has all of each copy that comes into it: nothing is added
-/// to it but the ends of such copies.
+/// A region that leads to a path and to all that lines copy, and has each copy that comes into it whole. Only the ends
+/// of such copies are added to it.
 pub(crate) fn closed_region(
     alloc: Global,
     table: &Table,
@@ -146,7 +146,7 @@ pub(crate) fn paths_in<T: Tree>(
     Ok(paths)
 }
 
-/// Adds what stands at and below some paths.
+/// Adds the objects at some paths, with all below them.
 fn add_below<T: Tree>(
     alloc: Global,
     tree: &T,

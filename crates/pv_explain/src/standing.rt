@@ -1,4 +1,4 @@
-//! What stands at each path, without timestamps.
+//! A map from paths to objects, without timestamps.
 ghost use Rattle.std.specs.Prelude.{◌≡◌, not, IfOk, OnOk};
 ghost use Rattle.std.specs.BTreeMap.{IsOrdered, keys};
 ghost use Rattle.std.specs.FinMap as fin;
@@ -14,7 +14,7 @@ use std::alloc::{AllocError, Global};
 use std::collections::BTreeMap;
 use std::marker::Model;
 
-/// What stands at each path, without timestamps. Clauses see the finite map.
+/// A map from paths to objects, without timestamps. Clauses see the finite map.
 #[derive(Drop)]
 pub struct Standing {
     objects: BTreeMap<TreePath, ObjectState>,
@@ -43,7 +43,7 @@ impl Standing {
         }
     }
 
-    /// Puts an object at a path, in the place of what stands there.
+    /// Puts an object at a path, in place of the old one.
     pub fn put(&mut self, path: TreePath, object_state: ObjectState) -> Result<(), AllocError>
         ensures { OnOk result (self.new ≡ fin.insert self.old path object_state) }
     {
@@ -51,14 +51,14 @@ impl Standing {
         Ok(())
     }
 
-    /// What stands at a path. It takes no memory.
+    /// The object at a path. It takes no memory.
     pub fn get(&self, path: &TreePath) -> Option<&ObjectState>
         ensures { option_copied result ≡ fin.get self.now path.now }
     {
         self.objects.get(path)
     }
 
-    /// A copy of what stands at a path.
+    /// A copy of the object at a path.
     pub fn copy_at(&self, path: &TreePath) -> Result<Option<ObjectState>, AllocError>
         ensures { IfOk result (λ object_state. object_state ≡ fin.get self.now path.now) }
     {

@@ -18,7 +18,7 @@ use pv_path::{TreePath, is_prefix, rebase};
 use pv_table::{Action, Table, action_of, create_order, path_of};
 use std::alloc::{AllocError, Global};
 
-/// What the first lines of a table leave at each path, in the order of the create phase (tmpfiles.d(5)): no line is
+/// What the first lines of a table leave at each path, in the order of the create phase (tmpfiles.d(5)). No line is
 /// refused, and each path is judged by itself.
 pub fn state_after(
     alloc: Global,
@@ -60,7 +60,7 @@ pub fn after_line(alloc: Global, line: &Line, before: &Standing) -> Result<Stand
     tabulated(alloc, &turn, &paths)
 }
 
-/// What a line leaves at some paths, from what stands at all that it looks at.
+/// What a line leaves at some paths, by the objects at all paths that it looks at.
 pub fn after_line_at(
     alloc: Global,
     line: &Line,

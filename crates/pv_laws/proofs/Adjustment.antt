@@ -1,4 +1,4 @@
--- What a line that adjusts what is there, and is refused at no path, leaves at each path by itself, stamps aside.
+-- What a line that adjusts what is there, and is refused at no path, leaves at each path by itself, timestamps aside.
 use Rattle.std.specs.Prelude.{◌≡◌, ◌⊎◌, ℕ, ◌+◌, ◌-◌, ◌≤◌, ◌<◌, Bool, true, false, not, cond, ◌&&◌, ◌||◌, List, [], ◌∷◌, length, take, filter, fold, Option, Some, None, is_some, option_map}
 use Rattle.std.proofs.Common.{zero, suc, refl, sym, ap, subst, ◌∙◌, arith, inl, inr}
 use Rattle.std.proofs.lemmas.List.{length-take}

@@ -1,4 +1,4 @@
--- Runs that were cut short, however many, each begun on what the last one left, a whole run mends.
+-- Runs that were cut short, however many, each begun on what the last one left, a complete run completes.
 use Rattle.std.specs.Prelude.{◌≡◌, ℕ, true, List, [], ◌∷◌, ◌++◌}
 use Rattle.std.proofs.Common.{refl, sym, subst, ◌∙◌}
 use Rattle.std.specs.List.{AllByRecursion}
@@ -11,7 +11,7 @@ use Rattle.pv_table.specs.Active.{are_distinct}
 use Rattle.pv_table.specs.Created.{created, IsQuiet}
 use Rattle.pv_table.specs.Repeatable.{IsRepeatable}
 use Rattle.pv_laws.specs.Copying.{StoppedRuns}
-use Rattle.pv_laws.proofs.StateStops.{run_mends}
+use Rattle.pv_laws.proofs.StateStops.{run_recovers}
 use Rattle.pv_laws.proofs.Moments.{created_same}
 
 module _ (lines : List Line) (are : AllByRecursion IsLine lines) (distinct : are_distinct lines ≡ true) (repeatable : IsRepeatable lines) where
@@ -19,16 +19,16 @@ module _ (lines : List Line) (are : AllByRecursion IsLine lines) (distinct : are
   any_moment : (now later : ℕ) (t : Files) → Same (created lines now t) (created lines later t)
   any_moment now later t q plain = object_states-same (places (created lines now t)) (places (created lines later t)) q (created_same lines now later t t (λ p. refl) q)
 
-  -- a whole run from the first of these trees refuses no line at some moment
+  -- a complete run from the first of these trees refuses no line at some moment
   quiet_first : (moments : List ℕ) (later : ℕ) (t u : Files) → StoppedRuns lines moments t u → IsQuiet lines later u → (now : ℕ) × IsQuiet lines now t
   quiet_first [] later t u same quiet = (later, subst (IsQuiet lines later) same quiet)
   quiet_first (now ∷ moments) later t u runs quiet = (now, runs.0)
 
-  pub again_mended : (moments : List ℕ) (now later : ℕ) (t u : Files) → IsTree t → IsTree u → StoppedRuns lines moments t u → IsQuiet lines later u → Same (created lines later u) (created lines now t)
-  again_mended [] now later t u tree there same again = subst (λ (v : Files). Same (created lines later v) (created lines now t)) (sym same) (any_moment later now t)
-  again_mended (first ∷ moments) now later t u tree there runs again = λ q plain.
-      again_mended moments next.0 later v u runs.1.1 there runs.1.3 again q plain
-      ∙ run_mends lines are distinct repeatable first next.0 t v tree runs.1.1 runs.0 next.1 runs.1.2 q plain
+  pub again_recovered : (moments : List ℕ) (now later : ℕ) (t u : Files) → IsTree t → IsTree u → StoppedRuns lines moments t u → IsQuiet lines later u → Same (created lines later u) (created lines now t)
+  again_recovered [] now later t u tree there same again = subst (λ (v : Files). Same (created lines later v) (created lines now t)) (sym same) (any_moment later now t)
+  again_recovered (first ∷ moments) now later t u tree there runs again = λ q plain.
+      again_recovered moments next.0 later v u runs.1.1 there runs.1.3 again q plain
+      ∙ run_recovers lines are distinct repeatable first next.0 t v tree runs.1.1 runs.0 next.1 runs.1.2 q plain
       ∙ any_moment first now t q plain
     where
       v : Files

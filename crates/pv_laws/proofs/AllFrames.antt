@@ -130,7 +130,7 @@ module _ (now : ℕ) (q : Path) (plain : has_staging q ≡ false) where
     in_order_away : AllByRecursion (λ (line : Line). governs line q ≡ false) (in_create_order lines)
     in_order_away = all_in_order (λ (line : Line). governs line q ≡ false) lines (all_away lines free)
 
-    -- a whole run, and one that was cut short
+    -- a complete run, and one that was cut short
     pub run_frame : object_states_of (places (created lines now t)) q ≡ object_states_of (places t) q
     run_frame = frame_after (in_create_order lines) (all_in_order IsLine lines are) in_order_away t (tree_shaped (places t) tree)
 

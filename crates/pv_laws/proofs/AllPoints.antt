@@ -266,7 +266,7 @@ plain_safe lines are none = all_in_order IsSafe lines (each lines are none)
     each [] h g = tt
     each (line ∷ ls) h g = (record { is = h.0; away = λ copying e. absurd (let no : Some copying.source ≡ None = sym (ap copied e) ∙ g.0 in cc) }, each ls h.1 g.1)
 
--- and where no line has a reason
+-- and if no line has a hazard
 module _ (lines : List Line) (are : AllByRecursion IsLine lines) (repeatable : IsRepeatable lines) where
   pub safe_of : (line : Listed) → IsListed lines line → IsSafe line.1
   safe_of line placed = record { is = placed.is; away = away }

@@ -13,7 +13,7 @@ use Rattle.pv_table.specs.Effects.{restamped, become}
 use Rattle.pv_table.proofs.Restamping.{object_state_restamped}
 use Rattle.pv_laws.proofs.Sets.{impossible, is_adjustment}
 
--- adjusting an object on a tree does what it does without stamps
+-- adjusting an object on a tree does what it does without timestamps
 pub become-object_state : (now : ℕ) (xs : List Operation) → list_all is_adjustment xs ≡ true → (o : Object) → Some (object_state_of (become now xs o)) ≡ run xs (Some (object_state_of o))
 become-object_state now [] h o = refl
 become-object_state now (Make b ∷ xs) h o = impossible h

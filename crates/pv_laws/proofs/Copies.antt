@@ -1,4 +1,4 @@
--- What a line that copies, and is not refused, leaves at each path by itself, stamps and staging names aside.
+-- What a line that copies, and is not refused, leaves at each path by itself, timestamps and staging names aside.
 use Rattle.std.specs.Prelude.{◌≡◌, ◌≢◌, ◌⊎◌, ℕ, Bool, true, false, not, cond, ◌&&◌, ◌||◌, List, [], ◌∷◌, ◌++◌, Option, Some, None, is_some, option_map, unwrap_or, if◌then◌else◌}
 use Rattle.std.proofs.Common.{refl, sym, ap, subst, ◌∙◌, inl, inr, arith}
 use Rattle.std.specs.FinMap as fin

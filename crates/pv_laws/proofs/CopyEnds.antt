@@ -29,8 +29,8 @@ use Rattle.pv_table.specs.Turns.{Turn, view_of, topped_by, copy_of, is_childless
 use Rattle.pv_laws.specs.Copying.{IsCopyMidway, kept, parent, some_set, gone, turn_of}
 use Rattle.pv_laws.proofs.AllPoints.{IsSafe, turns_copy}
 use Rattle.pv_laws.proofs.Copies.{left_before, decided_before, childless_less}
-use Rattle.pv_laws.proofs.CopyMends.{copy_mends, begun_mends, IsBegun}
-use Rattle.pv_laws.proofs.CopyMends as mends
+use Rattle.pv_laws.proofs.CopyRecovers.{copy_recovers, begun_recovers, IsBegun}
+use Rattle.pv_laws.proofs.CopyRecovers as recovery
 use Rattle.pv_laws.proofs.Lines.{copy_path, copy_source}
 use Rattle.pv_laws.proofs.Making.{IsShaped}
 use Rattle.pv_laws.proofs.Sets.{impossible, is_adjustment, asked, sets_adjust, adjusted_some}
@@ -38,7 +38,7 @@ use Rattle.pv_laws.proofs.Adjustment.{turn_open, first_turn}
 use Rattle.pv_laws.proofs.Ways.{all_take}
 use Rattle.pv_path.proofs.Tests.{same_tests}
 
--- what stands at a path and below it, without staging names, by what comes after the path
+-- the object at a path and below it, without staging names, by what comes after the path
 abbrev pub inside : Path → Files → Path → Option ObjectState
 inside p t [] = object_states_of (places t) p
 inside p t (name ∷ rest) = cond (has_staging (name ∷ rest)) None (object_states_of (places t) (p ++ name ∷ rest))
@@ -122,13 +122,13 @@ module _ (line : Line) (safe : IsSafe line) (copying : Copying) (e : action_of l
             is k = cc
 
         at : has_staging rest ≡ false → IsCopyMidway p copying (turn_of line copying now t) (p ++ rest) (object_states_of (places t) (p ++ rest)) (object_states_of (places u) (p ++ rest)) → IsBegun copying.sets (turn_at t) rest (inside p t rest) (inside p u rest)
-        at plain (kept f) = mends.kept (inside_is p u rest plain ∙ f ∙ sym (inside_is p t rest plain))
+        at plain (kept f) = recovery.kept (inside_is p u rest plain ∙ f ∙ sym (inside_is p t rest plain))
         at plain (parent high differ none f) = absurd (differ (sym (is_prefix-antisym p (p ++ rest) (is_prefix-append p rest) high)))
-        at plain (some_set k same turn f) = mends.some_set k (whole same) (sym turn_is ∙ turn) (inside_is p u rest plain ∙ f ∙ ap (run (take k (parts copying.sets))) (sym (inside_is p t rest plain)))
-        at plain (gone subtree low turn f) = mends.gone subtree (sym turn_is ∙ turn) (inside_is p u rest plain ∙ f)
+        at plain (some_set k same turn f) = recovery.some_set k (whole same) (sym turn_is ∙ turn) (inside_is p u rest plain ∙ f ∙ ap (run (take k (parts copying.sets))) (sym (inside_is p t rest plain)))
+        at plain (gone subtree low turn f) = recovery.gone subtree (sym turn_is ∙ turn) (inside_is p u rest plain ∙ f)
 
         by : (c : Bool) → has_staging rest ≡ c → IsBegun copying.sets (turn_at t) rest (inside p t rest) (inside p u rest)
-        by true h = mends.kept (none_staged rest h)
+        by true h = recovery.kept (none_staged rest h)
         by false h = at h (way (p ++ rest) (below_plain p rest plain_path h))
 
   -- a second tree, in which the same is to be copied
@@ -146,17 +146,17 @@ module _ (line : Line) (safe : IsSafe line) (copying : Copying) (e : action_of l
       fewer name plain there = by (begun (name ∷ []))
         where
           by : IsBegun copying.sets (turn_at t) (name ∷ []) (inside p t (name ∷ [])) (inside p u (name ∷ [])) → is_some (object_states_of (places t) (p ++ name ∷ [])) ≡ true
-          by (mends.kept f) = ap is_some (sym (child_is t name plain) ∙ sym f ∙ child_is u name plain) ∙ there
-          by (mends.some_set k none turn f) = absurd (let no : ◌≡◌ {A = Path} (name ∷ []) [] = none in cc)
-          by (mends.gone subtree turn f) = impossible (sym (ap is_some (sym (child_is u name plain) ∙ f)) ∙ there)
+          by (recovery.kept f) = ap is_some (sym (child_is t name plain) ∙ sym f ∙ child_is u name plain) ∙ there
+          by (recovery.some_set k none turn f) = absurd (let no : ◌≡◌ {A = Path} (name ∷ []) [] = none in cc)
+          by (recovery.gone subtree turn f) = impossible (sym (ap is_some (sym (child_is u name plain) ∙ f)) ∙ there)
 
       all_stay : turn_at t ≡ Turn.Become copying.sets → (name : List ℕ) → has_staging (p ++ name ∷ []) ≡ false → is_some (object_states_of (places t) (p ++ name ∷ [])) ≡ true → is_some (object_states_of (places u) (p ++ name ∷ [])) ≡ true
       all_stay sets name plain there = by (begun (name ∷ []))
         where
           by : IsBegun copying.sets (turn_at t) (name ∷ []) (inside p t (name ∷ [])) (inside p u (name ∷ [])) → is_some (object_states_of (places u) (p ++ name ∷ [])) ≡ true
-          by (mends.kept f) = ap is_some (sym (child_is u name plain) ∙ f ∙ child_is t name plain) ∙ there
-          by (mends.some_set k none turn f) = absurd (let no : ◌≡◌ {A = Path} (name ∷ []) [] = none in cc)
-          by (mends.gone subtree turn f) = absurd (let no : Turn.Become copying.sets ≡ Turn.Put subtree = sym sets ∙ turn in cc)
+          by (recovery.kept f) = ap is_some (sym (child_is u name plain) ∙ f ∙ child_is t name plain) ∙ there
+          by (recovery.some_set k none turn f) = absurd (let no : ◌≡◌ {A = Path} (name ∷ []) [] = none in cc)
+          by (recovery.gone subtree turn f) = absurd (let no : Turn.Become copying.sets ≡ Turn.Put subtree = sym sets ∙ turn in cc)
 
       emptier : is_childless (view_of t) p ≡ true → is_childless (view_of u) p ≡ true
       emptier = childless_less t u p plain_path fewer
@@ -165,7 +165,7 @@ module _ (line : Line) (safe : IsSafe line) (copying : Copying) (e : action_of l
       full sets = same_tests (is_childless (view_of u) p) (is_childless (view_of t) p) (childless_less u t p plain_path (all_stay sets)) emptier
 
       pub begun_ends : (rest : Path) → after_turn (turn_at u) rest (inside p u rest) ≡ after_turn (turn_at t) rest (inside p t rest)
-      begun_ends rest = begun_mends copying b.body.kind p (view_of t) (view_of u) (inside p t) (inside p u) adjust repeatable begun emptier full rest (copies_same rest)
+      begun_ends rest = begun_recovers copying b.body.kind p (view_of t) (view_of u) (inside p t) (inside p u) adjust repeatable begun emptier full rest (copies_same rest)
 
     -- where it was done, and some of what later lines set
     module _ (ys : Path → List Operation) (ys_adjust : (rest : Path) → list_all is_adjustment (ys rest) ≡ true) (both_repeatable : IsRepeatable (copying.sets ++ ys []))
@@ -202,4 +202,4 @@ module _ (line : Line) (safe : IsSafe line) (copying : Copying) (e : action_of l
       pub done_ends : (rest : Path) → has_staging rest ≡ false → IsRepeatable (ys rest) → run (ys rest) (after_turn (turn_at u) rest (inside p u rest)) ≡ run (ys rest) (after_turn (turn_at t) rest (inside p t rest))
       done_ends rest plain repeatable_there =
           (λ i. run (ys rest) (after_turn (copying_turn copying (view_of u) p b.body.kind ((pieces []).1 refl i)) rest ((pieces rest).1 plain i)))
-          ∙ copy_mends copying b.body.kind p (view_of t) (view_of u) (topped_by copying b) (ap (option_map (topped_by copying)) present) of_kind again ys ys_adjust both_repeatable adjust (inside p t) j still_full rest repeatable_there (copies_same rest)
+          ∙ copy_recovers copying b.body.kind p (view_of t) (view_of u) (topped_by copying b) (ap (option_map (topped_by copying)) present) of_kind again ys ys_adjust both_repeatable adjust (inside p t) j still_full rest repeatable_there (copies_same rest)

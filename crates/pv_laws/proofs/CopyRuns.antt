@@ -1,4 +1,4 @@
--- A run that was cut short is mended at and below a path to which a line copies what is there.
+-- A run that was cut short recovers at and below a path to which a line copies what is there.
 use Rattle.std.specs.Prelude.{◌≡◌, ◌⊎◌, ℕ, true, false, ◌||◌, List, [], ◌∷◌, ◌++◌, take, Some, None, is_some}
 use Rattle.std.proofs.Common.{refl, sym, ap, subst, ◌∙◌, inl, inr}
 use Rattle.std.proofs.lemmas.List.{append-nil}
@@ -25,8 +25,8 @@ use Rattle.pv_table.specs.Turns.{copied}
 use Rattle.pv_laws.specs.Copying.{IsCopyMidway, turn_of, OnWayOf, copy_before, copy_done, other, PartwayOf}
 use Rattle.pv_laws.proofs.AllPoints.{IsSafe, line_pointed, turns_copy, copy_passes}
 use Rattle.pv_laws.proofs.CopyEnds.{inside, inside_is, inside_same, below_plain, plain_path, plain_source, turn_at, copy_inside, begun_before}
-use Rattle.pv_laws.proofs.CopyMends as mends
-use Rattle.pv_laws.proofs.CopyMends.{IsBegun}
+use Rattle.pv_laws.proofs.CopyRecovers as recovery
+use Rattle.pv_laws.proofs.CopyRecovers.{IsBegun}
 use Rattle.pv_laws.proofs.AllFrames.{frame_after}
 use Rattle.pv_laws.proofs.Later.{IsAfter, all_shaped, later_point, later_way}
 use Rattle.pv_laws.proofs.Making.{same_unnamed, IsShaped}
@@ -128,7 +128,7 @@ module _ (xs ys : List Line) (line : Line) (safe : IsSafe line) (copying : Copyi
         at (other none there) = absurd (let no : Some copying.source ≡ None = sym (ap copied e) ∙ none in cc)
 
         by : ((q : Path) → has_staging q ≡ false → is_prefix p q ≡ true → object_states_of (places u) q ≡ object_states_of (places t) q) ⊎ PartwayOf (line ∷ ys) now middle u → Begun u ⊎ Done u
-        by (inl same) = inl (λ rest. mends.kept (inside_same p middle u (plain_path line safe copying e b) (λ q plain under. same q plain under ∙ sym (middle_region q plain under)) rest))
+        by (inl same) = inl (λ rest. recovery.kept (inside_same p middle u (plain_path line safe copying e b) (λ q plain under. same q plain under ∙ sym (middle_region q plain under)) rest))
         by (inr (inl there)) = at there
         by (inr (inr later)) = inr (λ rest plain. (
             let some = later_way p (p ++ rest) (is_prefix-append p rest) now (below_plain p rest (plain_path line safe copying e b) plain) ys safe_ys laters ((by_line now).after line middle) u (line_pointed now line safe middle middle_shaped quiet_two.0).shape quiet_two.1 later in

@@ -136,7 +136,7 @@ module _ (now : ℕ) (copying : Copying) (adjust : list_all is_adjustment copyin
       by (inl f) = shape.plain q x plain (sym f ∙ e) h
       by (inr two) = filled_numbers q plain true (old q) refl x (sym two.1 ∙ e) h
 
-  -- ---- the copy, by what stands there
+  -- ---- the copy, by the object there
 
   copy_top : copy_of copying (view_of (prepare now path t)) [] ≡ Some (topped_by copying b)
   copy_top = ap (option_map (topped_by copying)) (source_ready now copying adjust path unstaged plain_source t shape b present ∙ present)

@@ -196,7 +196,7 @@ module _ (lines : List Line) (now : ℕ) (s : ObjectStates) (t u : Files) (tree 
             (way_amid now found.1 one.safe (after_each (by_line now) (take found.0 (in_create_order lines)) t) one.shape one.quiet q plain (state lines found.0 s) (after found.0) u found.3);
       })
 
-  -- where no line has a reason
+  -- if no line has a hazard
   pub copies_on_the_way : AllByRecursion IsLine lines → IsRepeatable lines → PartwayOf (in_create_order lines) now t u → IsOnTheWay lines s u
   copies_on_the_way are repeatable way = safe_on_the_way (all_safe lines are repeatable) way
 

@@ -1,4 +1,4 @@
--- Where no line has a reason, what lines copy stays as it is.
+-- Where no line has a hazard, what lines copy stays as it is.
 use Rattle.std.specs.Prelude.{◌≡◌, ℕ, true, false, List, [], ◌∷◌, Some, map, slice_get, ◌+◌}
 use Rattle.std.proofs.Common.{ap, arith}
 use Rattle.std.proofs.lemmas.Bool.{false_from_ne_true}

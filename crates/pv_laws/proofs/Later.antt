@@ -49,7 +49,7 @@ module _ (p : Path) (line : Line) (q : Path) (under : is_prefix p q ≡ true) wh
       by (inl e) = e
       by (inr clearing) = absurd (true_not_false (is_prefix (path_in line.path) p) clearing.above low)
 
-  -- it adjusts what stands there, or asks for nothing
+  -- it adjusts the object there, or asks for nothing
   pub after_adjusts : IsAfter p line → list_all is_adjustment (operations line q) ≡ true
   after_adjusts (adjusts h) = adjuster_adjusts q line h
   after_adjusts (beside is low) = ap (list_all is_adjustment) (asks_none is low)

@@ -22,7 +22,7 @@ pub mod Frozen
 pub mod CopyWays
 pub mod Regions
 pub mod Tops
-pub mod CopyMends
+pub mod CopyRecovers
 pub mod Later
 pub mod CopyEnds
 pub mod Splits

@@ -1,4 +1,4 @@
--- What lines that are refused at no turn leave at each path by itself, stamps and staging names aside.
+-- What lines that are refused at no turn leave at each path by itself, timestamps and staging names aside.
 use Rattle.std.specs.Prelude.{◌≡◌, ◌≢◌, ◌⊎◌, ℕ, Bool, true, false, not, cond, ◌||◌, ◌==◌, List, [], ◌∷◌, filter, find, Option, Some, None, is_some, option_map, unwrap_or}
 use Rattle.std.proofs.Common.{refl, sym, ap, subst, ◌∙◌, inl, inr, arith}
 use Rattle.std.specs.List.{list_all, AllByRecursion}

@@ -1,4 +1,4 @@
--- What a line that makes an object, and is not refused, leaves at each path by itself, stamps and staging names aside.
+-- What a line that makes an object, and is not refused, leaves at each path by itself, timestamps and staging names aside.
 use Rattle.std.specs.Prelude.{◌≡◌, ◌≢◌, ◌⊎◌, ℕ, Bool, true, false, not, cond, ◌&&◌, ◌||◌, ◌==◌, List, [], ◌∷◌, ◌++◌, Option, Some, None, is_some, option_map, if◌then◌else◌}
 use Rattle.std.proofs.Common.{refl, sym, ap, subst, ◌∙◌, arith, inl, inr}
 use Rattle.std.proofs.lemmas.Bool.Decides.{nat_tests}
@@ -39,13 +39,13 @@ use Rattle.pv_laws.proofs.Prepared.{filled, prepared-here, prepared-else}
 use Rattle.pv_laws.proofs.Sets.{impossible, is_adjustment, IsMaking, adjusted_none, only_adjusts, left_alone}
 use Rattle.pv_path.proofs.Tests.{none_of, true_not_false}
 
--- ---- what the laws need of a tree, stamps aside
+-- ---- what the laws need of a tree, timestamps aside
 
 -- whether a directory stands there
 abbrev pub is_dir : Option ObjectState → Bool
 is_dir b = option_map_or (λ x. is_directory x.body.kind) b false
 
--- the root is a directory, what stands at a path without a staging name lies in directories, its path has names, and
+-- the root is a directory, the object at a path without a staging name lies in directories, its path has names, and
 -- directories have no numbers
 pub record IsShaped (b : Path → Option ObjectState) : Type 0 where
   pub root : is_dir (b []) ≡ true
@@ -57,7 +57,7 @@ pub record IsShaped (b : Path → Option ObjectState) : Type 0 where
 pub nothing_unnamed : (b : Path → Option ObjectState) → IsShaped b → (q : Path) → has_staging q ≡ false → has_names q ≡ false → b q ≡ None
 nothing_unnamed b shape q plain none = none_of (b q) (false_from_ne_true _ (λ there. true_not_false (has_names q) (shape.named q plain there) none))
 
--- nor below what is no directory
+-- nor below what is not a directory
 pub nothing_under : (b : Path → Option ObjectState) → IsShaped b → (p q : Path) → has_staging q ≡ false → is_prefix p q ≡ true → p ≢ q → is_dir (b p) ≡ false → b q ≡ None
 nothing_under b shape p q plain under other no_dir = none_of (b q) (false_from_ne_true _ (λ there. true_not_false (is_dir (b p)) (shape.above p q plain under other there) no_dir))
 
@@ -157,7 +157,7 @@ module _ (making : Making) (is : IsMaking making) where
   pub first_renew : (test : Test) → making.renew ≡ Some test → first_of making ≡ Renew test new_object_state
   first_renew test e = rw e
 
-  -- whether what stands at the path stays
+  -- whether the object at the path stays
   abbrev pub does_stay : Option Test → ObjectState → Bool
   does_stay renew x = option_map_or (λ test. stays test new_object_state.body x.body) renew true
 
@@ -241,7 +241,7 @@ module _ (making : Making) (is : IsMaking making) where
       by None e = ap (λ r. does_stay r x) e ∙ sym (ap not (clears_none e))
       by (Some test) e = ap (λ r. does_stay r x) e ∙ judged test ∙ sym (ap not (clears_some test e))
 
-  -- what is done at the path leaves below it what is asked there; below what is no directory nothing stands
+  -- what is done at the path leaves below it what is asked there; below what is not a directory nothing stands
   pub below_after : (b c : Option ObjectState) → ((x : ObjectState) → b ≡ Some x → is_directory x.body.kind ≡ true → IsPlainDirectory x) → (is_dir b ≡ false → c ≡ None) → (name : List ℕ) (rest : Path)
       → after_turn (making_turn making b) (name ∷ rest) c ≡ run (cond (clears_below making) (Erase ∷ []) []) c
   below_after None c plain none name rest = sym (ap (run (cond (clears_below making) (Erase ∷ []) [])) (none refl) ∙ by (clears_below making))

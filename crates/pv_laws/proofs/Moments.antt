@@ -1,4 +1,4 @@
--- Runs of lines at different moments, from trees that are the same but for stamps: the trees that they leave, the messages and
+-- Runs of lines at different moments, from trees that are the same except for timestamps: the trees that they leave, the messages and
 -- the refusals.
 use Rattle.std.specs.Prelude.{◌≡◌, ℕ, List}
 use Rattle.pv_walk.proofs.OperationLaws.{object_states_of-same, object_states-same}

@@ -1,4 +1,4 @@
--- A run that was cut short is mended at each path that lies neither at nor below a path to which a line copies what is there.
+-- A run that was cut short recovers at each path that lies neither at nor below a path to which a line copies what is there.
 use Rattle.std.specs.Prelude.{◌≡◌, ℕ, Bool, true, false, cond, List, [], ◌∷◌, map, take, Option, Some, None, is_some}
 use Rattle.std.proofs.Common.{suc, refl, sym, ap, subst, ◌∙◌, inl, inr, arith}
 use Rattle.std.specs.List.{list_all, AllByRecursion}

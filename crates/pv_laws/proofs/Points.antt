@@ -1,4 +1,4 @@
--- The definition of what lines leave at each path by itself gives what they leave, stamps and staging names aside.
+-- The definition of what lines leave at each path by itself gives what they leave, timestamps and staging names aside.
 use Rattle.std.specs.Prelude.{◌≡◌, ℕ, Bool, true, false, not, cond, ◌&&◌, ◌||◌, List, [], ◌∷◌, ◌++◌, take, Option, Some, None, is_some, option_map, unwrap_or}
 use Rattle.std.proofs.Common.{zero, suc, refl, sym, ap, subst, ◌∙◌, inl, inr, arith}
 use Rattle.std.proofs.lemmas.List.{append-nil}

@@ -1,4 +1,4 @@
--- What preparing a path leaves at each path, stamps and staging names aside: a parent above the path where nothing stood,
+-- What preparing a path leaves at each path, timestamps and staging names aside: a parent above the path where nothing stood,
 -- and elsewhere what stood there.
 use Rattle.std.specs.Prelude.{◌≡◌, ◌≢◌, ℕ, Bool, true, false, cond, ◌&&◌, ◌||◌, List, [], ◌∷◌, fold, Option, Some, None, is_some, option_map}
 use Rattle.std.proofs.Common.{refl, sym, ap, ◌∙◌, arith}
@@ -26,7 +26,7 @@ module _ (now : ℕ) where
     | false ↦ refl
   ]
 
-  -- what lies outside of what is taken is kept, stamps aside
+  -- what lies outside of what is taken is kept, timestamps aside
   all_taken-outside : (ps : List Path) (t : Places) (q : Path) → is_under_any ps q ≡ false → object_states_of (all_taken now ps t) q ≡ object_states_of t q
   all_taken-outside [] t q h = refl
   all_taken-outside (p ∷ ps) t q h =
@@ -39,7 +39,7 @@ swept now path t = all_taken now (staging_names path) t
 
 -- ---- the parents
 
--- a parent, where there is to be one and nothing stands
+-- a parent, if there is to be one and nothing stands
 abbrev pub filled : Bool → Option ObjectState → Option ObjectState
 filled is_parent b = cond is_parent (done (Make parent_object_state) b) b
 

@@ -50,7 +50,7 @@ use Rattle.pv_path.proofs.Tests.{true_not_false}
 
 -- ---- copies outside of a path
 
--- a copy that lies neither at a path, nor above it, nor below it leaves what stands there; one below it leaves it, or makes
+-- a copy that lies neither at a path, nor above it, nor below it leaves the object there; one below it leaves it, or makes
 -- it a parent
 module _ (now : ℕ) (line : Line) (safe : IsSafe line) (copying : Copying) (e : action_of line ≡ Copy copying) (t : Files) (shape : IsShaped (object_states_of (places t))) (quiet : (by_line now).is_refused line t ≡ false) (q : Path) (plain : has_staging q ≡ false)
     (outside : is_prefix (path_in line.path) q ≡ false) where
@@ -70,9 +70,9 @@ module _ (now : ℕ) (line : Line) (safe : IsSafe line) (copying : Copying) (e :
           ∙ at_outside now copying (subst (λ d. list_all is_adjustment (sets_of d) ≡ true) e (sets_adjust line (action_of line) (asked line))) (path_in line.path) (copy_path line safe.is copying e).0 (copy_source line safe.is copying e) t shape b f
           (copy_path line safe.is copying e).1 (copy_passes line copying e t open_path (sym (object_state_some (places t copying.source)) ∙ ap is_some f)) q plain (rest_under-None (path_in line.path) q outside))
 
--- ---- an object that is no directory
+-- ---- an object that is not a directory
 
--- something stands there that is no directory
+-- something stands there that is not a directory
 pub record IsStuck (b : Option ObjectState) : Type 0 where
   pub there : is_some b ≡ true
   pub no_dir : is_dir b ≡ false
@@ -298,7 +298,7 @@ module _ (now : ℕ) where
         by (inl e) rest = rest ∙ e
         by (inr clearing) rest = absurd (never_clears line lines safe.0 beside.0 safe.1 beside.1 before.0 t shape quiet passes clearing)
 
-    -- also where a run is on its way among these lines; else they are done
+    -- also where a run is on its way among these lines; otherwise they are done
     pub region_partway : (lines rest : List Line) → AllByRecursion IsSafe lines → AllByRecursion (IsBeside p) lines → Pairwise Before lines → (t u : Files) → IsShaped (object_states_of (places t)) → one_is_refused (by_line now) lines t ≡ false → Passes (after_each (by_line now) lines t)
         → PartwayOf (lines ++ rest) now t u
         → ((q : Path) → has_staging q ≡ false → is_prefix p q ≡ true → object_states_of (places u) q ≡ object_states_of (places t) q) ⊎ PartwayOf rest now (after_each (by_line now) lines t) u

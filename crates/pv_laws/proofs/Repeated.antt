@@ -1,4 +1,4 @@
--- Where no line has a reason, nothing is said against the operations that lines ask for at one path.
+-- Where no line has a hazard, nothing is said against the operations that lines ask for at one path.
 use Rattle.std.specs.Prelude.{◌≡◌, ◌≢◌, ◌⊎◌, ℕ, ◌+◌, ◌-◌, ◌≤◌, Bool, true, false, not, cond, ◌&&◌, ◌||◌, List, [], ◌∷◌, ◌++◌, map, filter, fold, Option, Some, None, slice_get}
 use Rattle.std.proofs.Common.{refl, sym, ap, subst, ◌∙◌, arith, inl, inr}
 use Rattle.std.specs.List.{list_any, list_all, flat_map, enumerate_from, AllByRecursion}
@@ -259,7 +259,7 @@ module _ (q : Path) where
       by true e = ap (λ b. not b && makes_late (xs ++ ys)) e
       by false e = ap (λ b. not b && makes_late (xs ++ ys)) e ∙ at (begins (or_parts (list_any is_erasure xs) (list_any is_erasure ys) (sym (list_any-append is_erasure xs ys) ∙ e)).0)
 
--- ---- where no line has a reason
+-- ---- if no line has a hazard
 
 -- a line at its place
 pub record IsListed (lines : List Line) (line : Listed) : Type 0 where

@@ -448,7 +448,7 @@ sets_unmixed line action (writes e) = subst (λ d. has_mixed_mask (sets_of d) �
 sets_unmixed line action (sets deep e) = subst (λ d. has_mixed_mask (sets_of d) ≡ false) (sym e) (unmixed_by_mask (set_by line.plus line.argument) (argument_masks_none line.plus line.argument).0)
 sets_unmixed line action (idle e) = subst (λ d. has_mixed_mask (sets_of d) ≡ false) (sym e) refl
 
--- a masked mode is set only where the line has one
+-- a masked mode is set only if the line has one
 mode_masked : (line : Line) (mode : Option LineMode) (guard : Option Guard) → list_any (is_adjusting is_masked) (mode_to_set mode guard) ≡ true → has_masked_mode (record line { mode = mode }) ≡ true
 mode_masked line None guard h = impossible h
 mode_masked line (Some mode) None h = impossible h

@@ -1,4 +1,4 @@
--- What a line that copies sets at its path, and what later lines set there, may be set again where no line has a reason.
+-- What a line that copies sets at its path, and what later lines set there, may be set again if no line has a hazard.
 use Rattle.std.specs.Prelude.{◌≡◌, ◌⊎◌, ◌-◌, ◌≤◌, Bool, true, false, cond, ◌&&◌, ◌||◌, List, [], ◌∷◌, ◌++◌, map, Option, Some, None}
 use Rattle.std.proofs.Common.{refl, sym, ap, subst, ◌∙◌, arith, inl, inr}
 use Rattle.std.specs.List.{list_any, list_all, AllByRecursion}
@@ -80,7 +80,7 @@ own_again line copying b e = subst (λ (c : Copying). run c.sets (Some (topped_b
 pub top_kind : (copying : Copying) (b : ObjectState) → same_kind b.body.kind (topped_by copying b).body.kind ≡ true
 top_kind copying b = ap (λ (body : Body). same_kind b.body.kind body.kind) (topped_body copying b) ∙ same_kind-refl b.body.kind
 
--- ---- adjustments of lines of which none has a reason
+-- ---- adjustments of lines of which none has a hazard
 
 module _ (lines : List Line) (are : AllByRecursion IsLine lines) (distinct : are_distinct lines ≡ true) (repeatable : IsRepeatable lines) where
   abbrev Known : Listed → Type 0

@@ -76,7 +76,7 @@ module _ (making : Making) (is : IsMaking making) (path : Path) (unstaged : has_
   abbrev own : ObjectState
   own = object_state_of (new_object making.new 0)
 
-  -- what stands at the path then: the new object, or one like that which stood there and stays
+  -- the object at the path then: the new object, or one like that which stood there and stays
   pub data IsHere (z : ObjectState) : Type 0 where
     fresh : z ≡ own → IsHere z
     kept : (x : ObjectState) → a path ≡ Some x → IsLike x z → IsHere z

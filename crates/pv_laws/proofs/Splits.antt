@@ -1,4 +1,4 @@
--- The lines before and after one that copies, where no line has a reason and no two make one object.
+-- The lines before and after one that copies, if no line has a hazard and no two make one object.
 use Rattle.std.specs.Prelude.{◌≡◌, ◌≢◌, ◌⊎◌, ◌+◌, Bool, true, false, List, [], ◌∷◌, ◌++◌, map, filter, fold, slice_get}
 use Rattle.std.proofs.Common.{refl, sym, ap, subst, ◌∙◌, arith, inl, inr}
 use Rattle.std.proofs.lemmas.Bool.{false_from_ne_true}

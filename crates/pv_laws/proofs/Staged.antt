@@ -246,6 +246,6 @@ lines_stage now line which place high some (first ∷ lines) t are (inl h) =
     by (inr copied_so) = copied_line_stage now first are.0 t h.1 place high_there some copied_so.0 (ap action_of h.0 ∙ copied_so.1) h.2
 lines_stage now line which place high some (first ∷ lines) t are (inr h) = lines_stage now line which place high some lines ((by_line now).after first t) are.1 h
 
--- so a whole run of lines leaves none
+-- so a complete run of lines leaves none
 pub run_leaves_none : (lines : List Line) → AllByRecursion IsLine lines → (now : ℕ) (t : Files) → LeavesNoStagingName lines now t (created lines now t)
 run_leaves_none lines are now t line place is carried high some = lines_stage now line is place high some (in_create_order lines) t (all_in_order IsLine lines are) carried

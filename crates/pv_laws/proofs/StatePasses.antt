@@ -224,7 +224,7 @@ way_parts now (x ∷ xs) ys t u (inr later) = by (way_parts now xs ys ((by_line 
     by (inl way) = inl (inr way)
     by (inr way) = inr way
 
--- ---- lines without reasons
+-- ---- lines without a hazard
 
 module _ (lines : List Line) (are : AllByRecursion IsLine lines) (distinct : are_distinct lines ≡ true) (repeatable : IsRepeatable lines) where
   abbrev all : List Listed

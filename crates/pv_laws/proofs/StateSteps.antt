@@ -55,7 +55,7 @@ objects s q = option_map (object_of 0) (fin.get s q)
 object_some : (b : Option ObjectState) → is_some (option_map (object_of 0) b) ≡ is_some b
 object_some b = grind arith
 
--- each map is what stands in some tree, stamps aside
+-- each map is what stands in some tree, timestamps aside
 pub tree_of : (s : ObjectStates) → (v : Files) × ((q : Path) → fin.get s q ≡ object_states_of (places v) q)
 tree_of s = (
   tabulate (fin.keys s) (objects s),

@@ -1,5 +1,5 @@
 -- From what a run has left on its way, the definition of each path by itself ends as from the tree of its start, whether or
--- not a whole run from there would refuse a line; so a whole run that refuses none mends it.
+-- not a complete run from there would refuse a line; so a complete run that refuses none completes it.
 use Rattle.std.specs.Prelude.{◌≡◌, ◌⊎◌, ℕ, Bool, true, false, ◌&&◌, List, [], ◌∷◌, ◌++◌, length, map, fold, take, Option, Some, None, is_some}
 use Rattle.std.proofs.Common.{refl, sym, arith, ap, subst, ◌∙◌, inl, inr}
 use Rattle.std.specs.FinMap as fin
@@ -37,7 +37,7 @@ use Rattle.pv_laws.specs.Moments.{Agree}
 use Rattle.pv_laws.specs.Stopping.{IsPiece}
 use Rattle.pv_laws.proofs.AllPoints.{IsSafe, state_whole, all_safe}
 use Rattle.pv_laws.proofs.CopyEnds.{inside, inside_same, below_plain, plain_path, plain_source, turn_at, begun_ends, done_ends}
-use Rattle.pv_laws.proofs.CopyMends.{IsBegun}
+use Rattle.pv_laws.proofs.CopyRecovers.{IsBegun}
 use Rattle.pv_laws.proofs.CopyRuns.{middle_source, middle_present as first_there, passes as line_passes, way_there, run_end, quiet_parts}
 use Rattle.pv_laws.proofs.Frozen.{away_all, source_partway}
 use Rattle.pv_laws.proofs.Later.{IsAfter, adjusts, beside, adjuster_plain, asks_none, all_adjust, all_shaped}
@@ -54,7 +54,7 @@ use Rattle.pv_laws.proofs.Shapes.{tree_shaped}
 use Rattle.pv_laws.proofs.Splits.{IsKnown, IsSplit, all_known, known_one, known_after, lines_whole, line_of, split, all_before, all_behind, all_beside, all_in_turn, all_later, later_listed}
 use Rattle.pv_laws.proofs.StatePasses.{free_all, none_clears, start_shaped, alike_all, same_alike, all_open}
 use Rattle.pv_laws.proofs.StateSteps.{IsOpen, AllOpen, tree_of, asked_after, none_after, inside_after, outside_after, open_shape, all_shape, all_frame, all_swap, fold_parts, open_parts}
-use Rattle.pv_laws.proofs.Stops.{piece_mends}
+use Rattle.pv_laws.proofs.Stops.{piece_recovers}
 use Rattle.pv_laws.proofs.Swapped.{swapped, all_swapped, swapped_distinct, swapped_repeatable, in_order_swapped}
 
 -- whether a path lies at or below the path of a line that copies what is there
@@ -71,7 +71,7 @@ module _ (p : Path) (line : Line) (safe : IsSafe line) (s : ObjectStates) (shape
   abbrev next : Option ObjectState
   next = fin.get (pointwise_after s line) q
 
-  -- a line beside it leaves what stands there, where it clears nothing above it
+  -- a line beside it leaves the object there, where it clears nothing above it
   beside_step : IsBeside p line → (IsClearing p line → ⊥) → next ≡ fin.get s q
   beside_step is never = copies_or_not line (λ copying e. copy copying e (fin.get s copying.source) refl) plain_line
     where
@@ -229,7 +229,7 @@ module _ (lines : List Line) (are : AllByRecursion IsLine lines) (distinct : are
     middle_present : fin.get middle copying.source ≡ Some b
     middle_present = ap (fin.get middle) (sym (append-nil copying.source)) ∙ middle_kept [] refl ∙ ap (object_states_of (places t)) (append-nil copying.source) ∙ present
 
-    -- what stands at and below the path is as when the run was cut short
+    -- what is at and below the path is as when the run was cut short
     middle_same : (passes : Passes now path first) → (q : Path) → has_staging q ≡ false → is_prefix path q ≡ true → object_states_of (places second) q ≡ object_states_of (places u) q
     middle_same passes q plain under =
         sym (second_is q)
@@ -324,14 +324,14 @@ module _ (lines : List Line) (are : AllByRecursion IsLine lines) (distinct : are
     outside_state : has_names q ≡ true → fin.get (fold pointwise_after r (in_create_order lines)) q ≡ object_states_of (places (created lines now t)) q
     outside_state named =
         state_end
-        ∙ piece_mends mapped (all_swapped t lines are) (swapped_distinct t lines ∙ distinct) (swapped_repeatable t lines repeatable) q named (object_states_of (places t) q) (object_states_of (places u) q) piece_there
+        ∙ piece_recovers mapped (all_swapped t lines are) (swapped_distinct t lines ∙ distinct) (swapped_repeatable t lines repeatable) q named (object_states_of (places t) q) (object_states_of (places u) q) piece_there
         ∙ sym first_end
 
   -- ---- all paths
 
   module _ (q : Path) (plain : has_staging q ≡ false) (named : has_names q ≡ true) where
-    abbrev IsMended : Type 0
-    IsMended = fin.get (fold pointwise_after r (in_create_order lines)) q ≡ object_states_of (places (created lines now t)) q
+    abbrev Recovers : Type 0
+    Recovers = fin.get (fold pointwise_after r (in_create_order lines)) q ≡ object_states_of (places (created lines now t)) q
 
     abbrev test : Listed → Bool
     test l = reached_by t q l.1 (action_of l.1)
@@ -340,19 +340,19 @@ module _ (lines : List Line) (are : AllByRecursion IsLine lines) (distinct : are
     outside_each [] h = tt
     outside_each (l ∷ ls) h = (not_reached t q l.1 h.0, outside_each ls h.1)
 
-    below : (found : IsSplit test (ordered (enumerate_from 0 lines))) (copying : Copying) → action_of found.one.1 ≡ Copy copying → is_some (object_states_of (places t) copying.source) ≡ true → is_prefix (path_in found.one.1.path) q ≡ true → IsMended
+    below : (found : IsSplit test (ordered (enumerate_from 0 lines))) (copying : Copying) → action_of found.one.1 ≡ Copy copying → is_some (object_states_of (places t) copying.source) ≡ true → is_prefix (path_in found.one.1.path) q ≡ true → Recovers
     below found copying e present under = with_some (object_states_of (places t) copying.source) present (let cut = prefix_parts (path_in found.one.1.path) q under in at cut.0 cut.1)
       where
-        at : (rest : Path) → q ≡ path_in found.one.1.path ++ rest → (b : ObjectState) → object_states_of (places t) copying.source ≡ Some b → IsMended
+        at : (rest : Path) → q ≡ path_in found.one.1.path ++ rest → (b : ObjectState) → object_states_of (places t) copying.source ≡ Some b → Recovers
         at rest is b f = subst (λ (p : Path). fin.get (fold pointwise_after r (in_create_order lines)) p ≡ object_states_of (places (created lines now t)) p) (sym is) (
             copy_state found.before found.after found.one found.whole copying e b f rest
             (or_parts (has_staging (path_in found.one.1.path)) (has_staging rest) (sym (has_staging-append (path_in found.one.1.path) rest) ∙ ap has_staging (sym is) ∙ plain)).1
             (ap has_names (sym is) ∙ named))
 
-    mended_named : IsMended
-    mended_named = by (split test (ordered (enumerate_from 0 lines)))
+    recovered_named : Recovers
+    recovered_named = by (split test (ordered (enumerate_from 0 lines)))
       where
-        at : (found : IsSplit test (ordered (enumerate_from 0 lines))) → (d : Action) → action_of found.one.1 ≡ d → IsMended
+        at : (found : IsSplit test (ordered (enumerate_from 0 lines))) → (d : Action) → action_of found.one.1 ≡ d → Recovers
         at found (Copy copying) e =
             let two = and_parts (is_some (object_states_of (places t) copying.source)) (is_prefix (path_in found.one.1.path) q) (sym (ap (reached_by t q found.one.1) e) ∙ found.passes) in
             below found copying e two.0 two.1
@@ -360,7 +360,7 @@ module _ (lines : List Line) (are : AllByRecursion IsLine lines) (distinct : are
         at found (Adjust adjustment) e = impossible (sym (ap (reached_by t q found.one.1) e) ∙ found.passes)
         at found Idle e = impossible (sym (ap (reached_by t q found.one.1) e) ∙ found.passes)
 
-        by : IsSplit test (ordered (enumerate_from 0 lines)) ⊎ AllByRecursion (λ l. test l ≡ false) (ordered (enumerate_from 0 lines)) → IsMended
+        by : IsSplit test (ordered (enumerate_from 0 lines)) ⊎ AllByRecursion (λ l. test l ≡ false) (ordered (enumerate_from 0 lines)) → Recovers
         by (inl found) = at found (action_of found.one.1) refl
         by (inr none) = outside_state q plain (outside_each (ordered (enumerate_from 0 lines)) none) named
 
@@ -374,14 +374,14 @@ module _ (lines : List Line) (are : AllByRecursion IsLine lines) (distinct : are
   whole_state : (q : Path) → has_staging q ≡ false → fin.get (state lines (length (in_create_order lines)) r) q ≡ object_states_of (places (created lines now t)) q
   whole_state q plain =
       ap (λ ls. fin.get (fold pointwise_after r ls) q) (take_all (length (in_create_order lines)) (in_create_order lines) (omega arith))
-      ∙ same_unnamed (fin.get (fold pointwise_after r (in_create_order lines))) (object_states_of (places (created lines now t))) last_shaped run_shaped q plain (mended_named q plain)
+      ∙ same_unnamed (fin.get (fold pointwise_after r (in_create_order lines))) (object_states_of (places (created lines now t))) last_shaped run_shaped q plain (recovered_named q plain)
 
   pub states_end : (s : ObjectStates) → Agree s t → (q : Path) → has_staging q ≡ false → fin.get (state lines (length (in_create_order lines)) r) q ≡ fin.get (state lines (length (in_create_order lines)) s) q
   states_end s same q plain = whole_state q plain ∙ sym (state_whole lines (all_safe lines are repeatable) now s t tree quiet same q plain)
 
-  -- so does a whole run that refuses no line
-  state_mends : (later : ℕ) → IsQuiet lines later u → Same (created lines later u) (created lines now t)
-  state_mends later again q plain = object_states-same (places (created lines later u)) (places (created lines now t)) q (
+  -- so does a complete run that refuses no line
+  state_recovers : (later : ℕ) → IsQuiet lines later u → Same (created lines later u) (created lines now t)
+  state_recovers later again q plain = object_states-same (places (created lines later u)) (places (created lines now t)) q (
       sym (state_whole lines (all_safe lines are repeatable) later r u there again agree q plain) ∙ whole_state q plain)
 
 -- each tree has a map of what stands in it
@@ -391,8 +391,8 @@ map_of t = (
   λ q plain. get-tabulated (fin.keys t) (object_states_of (places t)) q (λ h. sym (fin.contains_key-keys t q) ∙ sym (object_state_some (places t q)) ∙ h),
 )
 
--- a whole run from there leaves what one run that was not cut short leaves
-pub run_mends : (lines : List Line) → AllByRecursion IsLine lines → are_distinct lines ≡ true → IsRepeatable lines → (now later : ℕ) (t u : Files) → IsTree t → IsTree u
+-- a complete run from there leaves what one run that was not cut short leaves
+pub run_recovers : (lines : List Line) → AllByRecursion IsLine lines → are_distinct lines ≡ true → IsRepeatable lines → (now later : ℕ) (t u : Files) → IsTree t → IsTree u
     → IsQuiet lines now t → IsQuiet lines later u → PartwayOf (in_create_order lines) now t u → Same (created lines later u) (created lines now t)
-run_mends lines are distinct repeatable now later t u tree there quiet again way =
-    let r = map_of u in state_mends lines are distinct repeatable now t u tree there quiet way r.0 r.1 later again
+run_recovers lines are distinct repeatable now later t u tree there quiet again way =
+    let r = map_of u in state_recovers lines are distinct repeatable now t u tree there quiet way r.0 r.1 later again

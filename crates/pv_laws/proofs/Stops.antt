@@ -1,5 +1,5 @@
--- What a run of lines that copy nothing has left when it was cut short is a piece at each path, which a whole run of the
--- same lines mends.
+-- What a run of lines that copy nothing has left when it was cut short is a piece at each path, which a complete run of the
+-- same lines completes.
 use Rattle.pv_laws.proofs.AllFrames.{shape_after, shape_after}
 use Rattle.std.specs.Prelude.{◌≡◌, ℕ, Bool, true, false, List, [], ◌∷◌, ◌++◌, map, filter, fold, take, Option, Some, None}
 use Rattle.std.proofs.Common.{zero, suc, refl, sym, ap, subst, ◌∙◌, inl, inr}
@@ -90,7 +90,7 @@ partway_piece (line ∷ lines) now t u are shape quiet (inr later) q plain =
     subst (λ b. IsPiece lines q b (object_states_of (places u) q)) (one.point q plain ∙ sym (run-parts (operations line q) (object_states_of (places t) q)))
     (partway_piece lines now ((by_line now).after line t) u are.1 one.shape two.1 later q plain))
 
--- ---- the line that is to replace what stands there
+-- ---- the line that is to replace the object there
 
 module _ {A : Type 0} (R : A → A → Type 0) where
   pairwise_append : (xs ys : List A) → Pairwise R xs → Pairwise R ys → AllByRecursion (λ x. AllByRecursion (R x) ys) xs → Pairwise R (xs ++ ys)
@@ -189,8 +189,8 @@ module _ (lines : List Line) (are : AllByRecursion IsLine lines) (distinct : are
         ap (λ xs. parts xs ++ operations_of before q) (nothing_asked first goes.0 two.0) ∙ nothing_before before goes.1 two.1
 
   -- what the lines before it left gives way to the line's own object, so that nothing is as good
-  gap_mends : (before after : List Line) (line : Line) (b : ObjectState) (old : Option ObjectState) → in_create_order lines ≡ before ++ line ∷ after → run (operations_of before q) old ≡ Some b → IsRenewal line q b → run all None ≡ run all old
-  gap_mends before after line b old whole stood renewal = by (list_any is_erasure all) refl
+  gap_recovers : (before after : List Line) (line : Line) (b : ObjectState) (old : Option ObjectState) → in_create_order lines ≡ before ++ line ∷ after → run (operations_of before q) old ≡ Some b → IsRenewal line q b → run all None ≡ run all old
+  gap_recovers before after line b old whole stood renewal = by (list_any is_erasure all) refl
     where
       split : all ≡ operations_of before q ++ (parts (operations line q) ++ operations_of after q)
       split = ap (λ (ls : List Line). operations_of ls q) whole ∙ flat_map-append (λ (l : Line). parts (operations l q)) before (line ∷ after)
@@ -222,11 +222,11 @@ module _ (lines : List Line) (are : AllByRecursion IsLine lines) (distinct : are
           ∙ sym (ap (λ xs. run xs (Some b)) is) ∙ sym (ap (run all) here)
 
   -- from a piece all operations end as from the start, where the path can stand in a tree
-  pub piece_mends : has_names q ≡ true → (old new : Option ObjectState) → IsPiece (in_create_order lines) q old new → run all new ≡ run all old
-  piece_mends named old new (IsPiece.piece k e) = ap (run all) e ∙ absorbed all k old (messages_none named)
-  piece_mends named old new (IsPiece.gap before after line b whole stood renewal none) = ap (run all) none ∙ gap_mends before after line b old whole stood renewal
+  pub piece_recovers : has_names q ≡ true → (old new : Option ObjectState) → IsPiece (in_create_order lines) q old new → run all new ≡ run all old
+  piece_recovers named old new (IsPiece.piece k e) = ap (run all) e ∙ absorbed all k old (messages_none named)
+  piece_recovers named old new (IsPiece.gap before after line b whole stood renewal none) = ap (run all) none ∙ gap_recovers before after line b old whole stood renewal
 
--- ---- whole runs
+-- ---- complete runs
 
 pub all_plain : (lines : List Line) → AllByRecursion IsLine lines → AllByRecursion (λ line. copied (action_of line) ≡ None) lines → AllByRecursion IsPlain lines
 all_plain [] are none = tt
@@ -236,7 +236,7 @@ module _ (lines : List Line) (are : AllByRecursion IsLine lines) (no_copies : Al
   pub in_order_plain : AllByRecursion IsPlain (in_create_order lines)
   in_order_plain = all_in_order IsPlain lines (all_plain lines are no_copies)
 
-  -- what a whole run that refuses nothing leaves at a path
+  -- what a complete run that refuses nothing leaves at a path
   pub created_point : (now : ℕ) (t : Files) → IsTree t → IsQuiet lines now t → (q : Path) → has_staging q ≡ false
       → object_states_of (places (created lines now t)) q ≡ run (operations_of (in_create_order lines) q) (object_states_of (places t) q)
   created_point now t tree quiet q plain = lines_point now (in_create_order lines) t in_order_plain (tree_shaped (places t) tree) quiet q plain
@@ -246,13 +246,13 @@ module _ (lines : List Line) (are : AllByRecursion IsLine lines) (no_copies : Al
       → IsPiece (in_create_order lines) q (object_states_of (places t) q) (object_states_of (places u) q)
   partway_of_lines now t u tree quiet way = partway_piece (in_create_order lines) now t u in_order_plain (tree_shaped (places t) tree) quiet way
 
-  -- from pieces a whole run leaves what it leaves from the start
+  -- from pieces a complete run leaves what it leaves from the start
   module _ (distinct : are_distinct lines ≡ true) (repeatable : IsRepeatable lines) (now later : ℕ) (t u : Files) (tree : IsTree t) (there : IsTree u) (quiet : IsQuiet lines now t) (again : IsQuiet lines later u) where
-    pub pieces_mend : ((q : Path) → has_staging q ≡ false → IsPiece (in_create_order lines) q (object_states_of (places t) q) (object_states_of (places u) q)) → Same (created lines later u) (created lines now t)
-    pieces_mend pieces q plain = object_states-same (places (created lines later u)) (places (created lines now t)) q (
+    pub pieces_recover : ((q : Path) → has_staging q ≡ false → IsPiece (in_create_order lines) q (object_states_of (places t) q) (object_states_of (places u) q)) → Same (created lines later u) (created lines now t)
+    pieces_recover pieces q plain = object_states-same (places (created lines later u)) (places (created lines now t)) q (
         same_unnamed (object_states_of (places (created lines later u))) (object_states_of (places (created lines now t))) (left later u there) (left now t tree) q plain (λ named.
         created_point later u there again q plain
-        ∙ piece_mends lines are distinct repeatable q named (object_states_of (places t) q) (object_states_of (places u) q) (pieces q plain)
+        ∙ piece_recovers lines are distinct repeatable q named (object_states_of (places t) q) (object_states_of (places u) q) (pieces q plain)
         ∙ sym (created_point now t tree quiet q plain)))
       where
         left : (moment : ℕ) (v : Files) → IsTree v → IsShaped (object_states_of (places (created lines moment v)))

@@ -183,7 +183,7 @@ module _ (t : Files) where
       ∙ sym (map-append relisted (fold placed [] (filter (λ (l : Listed). is_creating l.1) (enumerate_from 0 lines))) (filter (λ (l : Listed). is_adjusting_line l.1) (enumerate_from 0 lines))))
       ∙ unlisted_swapped (ordered (enumerate_from 0 lines))
 
-  -- ---- no line has a reason, as before
+  -- ---- no line has a hazard, as before
 
   line_at : (lines : List Line) (i : ℕ) (new : Line) → IsAt (map (swapped t) lines) i new → (line : Line) × IsAt lines i line × (new ≡ swapped t line)
   line_at lines i new h = by (slice_get lines i) refl (sym (slice_get-map (swapped t) lines i) ∙ h)

@@ -180,7 +180,7 @@ front_uid (Apply guard change ∷ xs) h once (suc k) b y z e f = by once (λ lat
 
 -- ---- one line at work
 
--- what stands at a path on the way of a line, by what stood there and what comes there
+-- the object at a path on the way of a line, by what stood there and what comes there
 pub data IsAmid (line : Line) (s : ObjectStates) (q : Path) (old next here : Option ObjectState) : Type 0 where
   akin : (x y : ObjectState) → here ≡ Some x → (old ≡ Some y) ⊎ (next ≡ Some y) → IsAkin x y → IsAmid line s q old next here
   absent : here ≡ None → (old ≡ None) ⊎ (next ≡ None) → IsAmid line s q old next here

@@ -29,7 +29,7 @@ pub record Replaces (line : Line) (s : ObjectStates) (path : Path) : Type 0 wher
   pub there : fin.get s path ≡ Some object
   pub puts : decide (action_of line) (view s) path ≡ Turn.Put subtree
 
--- what stands at a path is akin to what stood there before a line, or to what stands there after it; nothing stands there
+-- the object at a path is akin to what stood there before a line, or to the object there after it; nothing stands there
 -- where nothing stood or will stand, or where the line replaces an object at the path or at a prefix of it
 pub data IsBetween (line : Line) (before after : ObjectStates) (q : Path) (here : Option ObjectState) : Type 0 where
   akin : (x y : ObjectState) → here ≡ Some x → (fin.get before q ≡ Some y) ⊎ (fin.get after q ≡ Some y) → IsAkin x y → IsBetween line before after q here

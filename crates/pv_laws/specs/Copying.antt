@@ -1,4 +1,4 @@
--- What a run of lines, of which some copy, may have left when it was cut short, stamps and staging names aside
+-- What a run of lines, of which some copy, may have left when it was cut short, timestamps and staging names aside
 -- (tmpfiles.d(5)).
 use Rattle.std.specs.Prelude.{⊤, ◌≡◌, ◌≢◌, ℕ, true, false, List, [], ◌∷◌, take, Option, Some, None, is_some}
 use Rattle.pv_path.specs.Paths.{Path, is_prefix, has_staging}
@@ -23,7 +23,7 @@ use Rattle.pv_walk.specs.Copying.{Subtree}
 use Rattle.pv_laws.specs.Stopping.{OnWay}
 
 -- at a path, from what stood there when a line that copies began, before its copy has come to its path: the same, or a
--- parent; some of what is set, where the line adjusts; or nothing, where what stands there gives way
+-- parent; some of what is set, where the line adjusts; or nothing, where the object there gives way
 pub data IsCopyMidway (path : Path) (copying : Copying) (turn : Turn) (q : Path) (old new : Option ObjectState) : Type 0 where
   kept : new ≡ old → IsCopyMidway path copying turn q old new
   parent : is_prefix q path ≡ true → q ≢ path → old ≡ None → new ≡ Some parent_object_state → IsCopyMidway path copying turn q old new
@@ -59,7 +59,7 @@ law_course now = record {
 abbrev pub PartwayOf : List Line → ℕ → Files → Files → Type 0
 PartwayOf lines now t u = Partway (law_course now) lines t u
 
--- runs of lines, one at each of some moments, each begun on what the last one left, and each cut short; a whole run from
+-- runs of lines, one at each of some moments, each begun on what the last one left, and each cut short; a complete run from
 -- each of these trees would refuse no line
 abbrev pub StoppedRuns : List Line → List ℕ → Files → Files → Type 0
 StoppedRuns lines [] t u = u ≡ t

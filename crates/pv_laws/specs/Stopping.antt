@@ -1,4 +1,4 @@
--- What a line that copies nothing may have left at each path when it was cut short, and what a run of such lines, stamps
+-- What a line that copies nothing may have left at each path when it was cut short, and what a run of such lines, timestamps
 -- and staging names aside (tmpfiles.d(5)).
 use Rattle.std.specs.Prelude.{◌≡◌, ℕ, false, List, ◌∷◌, ◌++◌, take, Option, Some, None}
 use Rattle.pv_path.specs.Paths.{Path, has_staging}
@@ -21,7 +21,7 @@ use Rattle.pv_table.specs.Turns.{copied}
 abbrev pub CopiesNothing : Line → Type 0
 CopiesNothing line = copied (action_of line) ≡ None
 
--- a line makes an object at a path, in the place of what stands there where this fails a test
+-- a line makes an object at a path, in the place of the object there where this fails a test
 pub record IsRenewal (line : Line) (q : Path) (b : ObjectState) : Type 0 where
   pub making : Making
   pub test : Test

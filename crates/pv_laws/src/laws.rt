@@ -27,8 +27,8 @@ ghost use Rattle.pv_laws.specs.Moments.{SameObjectStates, Agree};
 ghost use Rattle.pv_laws.specs.Stopping.{CopiesNothing, IsPiece};
 ghost use Rattle.pv_laws.specs.Swept.{LeavesNoStagingName};
 
-/// What a line that is refused at no turn leaves at a path depends on what stood at this path alone: it is what the
-/// operations that the line asks for there make of it; timestamps and staging names aside.
+/// What a line that is refused at no turn leaves at a path depends on the object at this path alone. It is what the
+/// operations that the line asks for there make of that object. Timestamps and staging names are left out.
 pub fn a_line_leaves_what_it_asks_for()
     ensures { (line : LineValue) (now : ℕ) (t : Files) (q : Path) → IsTree t → IsLine line → CopiesNothing line
         → (by_line now).is_refused line t ≡ false → has_staging q ≡ false
@@ -43,22 +43,22 @@ pub fn lines_leave_what_they_ask_for()
         ≡ run (operations_of (in_create_order lines) q) (object_states_of (places t) q) }
 {}
 
-/// Where no line has a reason, nothing is said against the operations that the lines ask for at any path that can stand
-/// in a tree.
+/// If no line has a hazard, nothing speaks against the operations that the lines ask for at any path that can be in a
+/// tree.
 pub fn nothing_is_said_against_lines_without_reasons()
     ensures { (lines : List LineValue) (q : Path) → AllByRecursion IsLine lines → are_distinct lines ≡ true
         → IsRepeatable lines → has_names q ≡ true → reasons.IsRepeatable (operations_of (in_create_order lines) q) }
 {}
 
-/// So from what the first operations at a path have left there, or from the gap where an object is to be replaced, all
-/// operations end as they end from the start.
+/// So all operations at a path end as they end from the start, if they begin with what the first of them have left
+/// there. It also holds if they begin with the gap where an object is to be replaced.
 pub fn a_piece_ends_as_the_start()
     ensures { (lines : List LineValue) (q : Path) (old new : Option ObjectStateValue) → AllByRecursion IsLine lines
         → are_distinct lines ≡ true → IsRepeatable lines → has_names q ≡ true → IsPiece (in_create_order lines) q old new
         → run (operations_of (in_create_order lines) q) new ≡ run (operations_of (in_create_order lines) q) old }
 {}
 
-/// What a run of lines has left on its way, with some lines done and the next at work, is such a piece at each path.
+/// In an intermediate state of a run of lines, with some lines done and the next at work, each path has such a piece.
 pub fn what_is_on_the_way_is_a_piece()
     ensures { (lines : List LineValue) (now : ℕ) (t u : Files) (q : Path) → IsTree t → AllByRecursion IsLine lines
         → AllByRecursion CopiesNothing lines → IsQuiet lines now t → PartwayOf (in_create_order lines) now t u
@@ -66,9 +66,9 @@ pub fn what_is_on_the_way_is_a_piece()
         → IsPiece (in_create_order lines) q (object_states_of (places t) q) (object_states_of (places u) q) }
 {}
 
-/// From a tree with such a piece at each path a whole run of the lines, at any moment, leaves what it leaves from the
-/// start, where neither run refuses a line at a turn; timestamps and staging names aside.
-pub fn a_run_from_pieces_is_mended()
+/// Over a tree with such a piece at each path, a complete run of the lines, at any moment, leaves what it leaves from
+/// the start. The premise is that neither run refuses a line at a turn. Timestamps and staging names are left out.
+pub fn a_run_from_pieces_recovers()
     ensures { (lines : List LineValue) (now later : ℕ) (t u : Files) → IsTree t → IsTree u
         → AllByRecursion IsLine lines → AllByRecursion CopiesNothing lines → are_distinct lines ≡ true
         → IsRepeatable lines → IsQuiet lines now t → IsQuiet lines later u
@@ -77,9 +77,10 @@ pub fn a_run_from_pieces_is_mended()
         → Same (created lines later u) (created lines now t) }
 {}
 
-/// A run of lines that was cut short, and is then run whole at any moment, leaves what one whole run leaves, where no line
-/// has a reason and neither whole run refuses a line at a turn; copies included.
-pub fn a_run_cut_short_is_mended()
+/// A run of lines recovers: if it is cut short and then run to completion at any moment, it leaves what one complete
+/// run leaves. The premises are that no line has a hazard, and that neither complete run refuses a line at a turn.
+/// Copies are included.
+pub fn a_run_cut_short_recovers()
     ensures { (lines : List LineValue) (now later : ℕ) (t u : Files) → IsTree t → IsTree u
         → AllByRecursion IsLine lines → are_distinct lines ≡ true → IsRepeatable lines → IsQuiet lines now t
         → IsQuiet lines later u → PartwayOf (in_create_order lines) now t u
@@ -87,15 +88,16 @@ pub fn a_run_cut_short_is_mended()
 {}
 
 /// And after any number of runs, each begun on what the last one left and cut short.
-pub fn runs_cut_short_again_and_again_are_mended()
+pub fn runs_cut_short_again_and_again_recover()
     ensures { (lines : List LineValue) (moments : List ℕ) (now later : ℕ) (t u : Files) → IsTree t → IsTree u
         → AllByRecursion IsLine lines → are_distinct lines ≡ true → IsRepeatable lines
         → StoppedRuns lines moments t u → IsQuiet lines later u
         → Same (created lines later u) (created lines now t) }
 {}
 
-/// Two lines without reasons, of which neither reaches a path of a tree that the other may change, leave the same in either
-/// order, where neither order has one refused; copies included, timestamps and staging names aside.
+/// Two lines without hazards leave the same in either order. The premises are that neither reaches a path of the tree
+/// that the other may change, and that neither order refuses one of them. Copies are included. Timestamps and staging
+/// names are left out.
 pub fn lines_that_are_apart_commute()
     ensures { (a b : LineValue) (now later : ℕ) (t : Files) → IsTree t → IsLine a → IsLine b
         → IsRepeatable (a ∷ b ∷ []) → AreApart a b → one_is_refused (by_line now) (a ∷ b ∷ []) t ≡ false
@@ -117,8 +119,8 @@ pub fn messages_and_trees_need_no_moment()
         → SameObjectStates (created lines now t) (created lines later u) }
 {}
 
-/// What no line governs stays as it is, after a whole run and on its way, whatever is refused; copies included,
-/// timestamps and staging names aside.
+/// What no line governs stays as it is, after a complete run and in each intermediate state, whatever is refused.
+/// Copies are included. Timestamps and staging names are left out.
 pub fn what_no_line_governs_stays()
     ensures whole { (lines : List LineValue) (now : ℕ) (t : Files) (q : Path) → IsTree t → AllByRecursion IsLine lines
         → has_staging q ≡ false → list_any (λ line. governs line q) lines ≡ false
@@ -128,15 +130,16 @@ pub fn what_no_line_governs_stays()
         → object_states_of (places u) q ≡ object_states_of (places t) q }
 {}
 
-/// A whole run leaves nothing at the staging names along the path of a line that makes or copies an object and was
-/// refused at no turn, where what it copies was there, whatever earlier runs have left there.
+/// A complete run leaves nothing at the staging names along the path of a line that makes or copies an object, whatever
+/// earlier runs have left there. The premises are that the line was refused at no turn, and that what it copies was
+/// there.
 pub fn a_run_leaves_no_staging_name()
     ensures { (lines : List LineValue) (now : ℕ) (t : Files) → AllByRecursion IsLine lines
         → LeavesNoStagingName lines now t (created lines now t) }
 {}
 
-/// The definition of what lines leave at each path by itself gives what they leave, after each number of lines, where
-/// none is refused at a turn; timestamps and staging names aside.
+/// The definition of what lines leave at each path by itself gives what they leave, after each number of lines, if none
+/// is refused at a turn. Timestamps and staging names are left out.
 pub fn each_path_by_itself_is_what_lines_leave()
     ensures some { (lines : List LineValue) (now k : ℕ) (s : ObjectStates) (t : Files) → IsTree t → AllByRecursion IsLine lines
         → AllByRecursion CopiesNothing lines → IsQuiet lines now t → Agree s t
@@ -154,9 +157,9 @@ pub fn active_lines_are_distinct()
         → IsRepeatable (active boot prefix exclude lines) }
 {}
 
-/// On the way of a run that refuses nothing each path has, for one line and all paths, the kind and the owner that it
-/// has before the line or after it; what is absent is absent before or after, or the line replaces an object there or
-/// above. This holds of lines that copy nothing, and of lines that copy where no line has a reason.
+/// Take an intermediate state of a run that refuses nothing. For one line and all paths, each path has the kind and the
+/// owner that it has before or after this line. What is absent is absent before or after, or the line replaces an
+/// object there or above. This holds for lines that copy nothing, and for lines that copy if no line has a hazard.
 pub fn on_the_way_each_path_is_between_two_lines()
     ensures plain { (lines : List LineValue) (now : ℕ) (s : ObjectStates) (t u : Files) → IsTree t → AllByRecursion IsLine lines
         → AllByRecursion CopiesNothing lines → IsQuiet lines now t → Agree s t
@@ -166,7 +169,7 @@ pub fn on_the_way_each_path_is_between_two_lines()
         → PartwayOf (in_create_order lines) now t u → IsOnTheWay lines s u }
 {}
 
-/// Where no line has a reason, that definition gives what lines leave at each path, copying lines included.
+/// If no line has a hazard, that definition gives what lines leave at each path, copying lines included.
 pub fn each_path_by_itself_is_what_lines_without_reasons_leave()
     ensures some { (lines : List LineValue) (now k : ℕ) (s : ObjectStates) (t : Files) → IsTree t → AllByRecursion IsLine lines
         → IsRepeatable lines → IsQuiet lines now t → Agree s t
@@ -176,9 +179,9 @@ pub fn each_path_by_itself_is_what_lines_without_reasons_leave()
         → Agree (state lines (length (in_create_order lines)) s) (created lines now t) }
 {}
 
-/// So what the definition gives at each path after all lines is the same from what a stopped run has left as from the tree
-/// of its start, where no line has a reason and a whole run from the start refuses no line at a turn; whatever a whole run
-/// from what was left would refuse.
+/// So the definition gives the same at each path after all lines, from what a stopped run has left as from the tree of
+/// its start. The premises are that no line has a hazard, and that a complete run from the start refuses no line at a
+/// turn. It does not matter what a complete run from what was left would refuse.
 pub fn states_after_a_stop_end_as_from_the_start()
     ensures { (lines : List LineValue) (now : ℕ) (s r : ObjectStates) (t u : Files) (q : Path) → IsTree t → IsTree u
         → AllByRecursion IsLine lines → are_distinct lines ≡ true → IsRepeatable lines → IsQuiet lines now t
@@ -187,8 +190,8 @@ pub fn states_after_a_stop_end_as_from_the_start()
         ≡ fin.get (state lines (length (in_create_order lines)) s) q }
 {}
 
-/// Where no line has a reason, what stands at and below a path that a line copies stays as it is, after a whole run and
-/// on its way, whatever is refused; lines that copy are among the lines.
+/// If no line has a hazard, a path that a line copies stays as it is with all below it. This holds after a complete run
+/// and in each intermediate state, whatever is refused. Lines that copy are among the lines.
 pub fn what_lines_copy_stays()
     ensures whole { (lines : List LineValue) (j : ℕ) (copier : LineValue) (source q : Path) (now : ℕ) (t : Files)
         → AllByRecursion IsLine lines → IsRepeatable lines → IsAt lines j copier → copied (action_of copier) ≡ Some source

@@ -1,4 +1,4 @@
--- What is asked while heads are walked: each question about related heads once, and nothing else.
+-- What is asked while heads are walked: each query about related heads once, and nothing else.
 use Rattle.std.proofs.Common.{◌≡◌, ◌≢◌, ℕ, ◌+◌, ◌<◌, ◌≤◌, ◌⊎◌, inl, inr, min, max, Bool, true, false, ◌||◌, List, [], ◌++◌, length, map, filter, take, get_or, All, AllPairs, Contains, Result, Ok, Err, IsErr, is_ok, refl, sym, ap, ◌∙◌, subst, arith}
 use Rattle.std.specs.declared.alloc.AllocError.{AllocError}
 use Rattle.std.proofs.Math.Bool.{or-true}
@@ -15,7 +15,7 @@ use Rattle.pv_overlap.specs.Walk.{IsHeadOf, IsOpen, IsOrderOf, head_at, question
 use Rattle.pv_overlap.proofs.Pairs.{AllPairs-append, AllPairs-map, AllPairs-none, AllPairs-take}
 use Rattle.pv_overlap.proofs.Related.{first_begins, kept_open}
 
--- a question about heads at two places below one, of which the first begins the second
+-- a query about heads at two places below one, of which the first begins the second
 pub record IsAskedOf (order : List Head) (at : ℕ) (question : Question) : Type 0 where
   pub first : ℕ
   pub second : ℕ
@@ -24,7 +24,7 @@ pub record IsAskedOf (order : List Head) (at : ℕ) (question : Question) : Type
   pub begins : is_prefix (head_at order first).path (head_at order second).path ≡ true
   pub is : question ≡ question_of (head_at order first) (head_at order second)
 
--- such questions, none twice
+-- such queries, none twice
 pub record AreAskedOf (order : List Head) (at : ℕ) (questions : List Question) : Type 0 where
   pub each : All (IsAskedOf order at) questions
   pub once : AllPairs ◌≢◌ questions
@@ -87,7 +87,7 @@ module _ (heads : List Path) (order : List Head) (is_order : IsOrderOf heads ord
     ]
   ]
 
-  -- questions about other places differ
+  -- queries about other places differ
   one_question : (q p r s : ℕ) → q < p → p < length order → r < s → s < length order → question_of (head_at order q) (head_at order p) ≡ question_of (head_at order r) (head_at order s) → (q ≡ r) × (p ≡ s)
   one_question q p r s less inside fewer within e =
       elim (same_two (head_at order q).index (head_at order p).index (head_at order r).index (head_at order s).index (ap (λ (x : Question). x.0) e) (ap (λ (x : Question). x.1) e)) [
@@ -107,7 +107,7 @@ module _ (heads : List Path) (order : List Head) (is_order : IsOrderOf heads ord
     ]
   ]
 
-  -- what was asked are questions about the heads
+  -- what was asked are queries about the heads
   is_question : (at : ℕ) → at ≤ length order → (question : Question) → IsAskedOf order at question → IsQuestion heads question
   is_question at within question of =
       let less = of.less in
@@ -131,7 +131,7 @@ module _ (heads : List Path) (order : List Head) (is_order : IsOrderOf heads ord
   path_is k i l e = (is_order.each k l).1 ∙ ap (λ x. get_or heads x []) e
 
   module _ (asked : List Question → Type 0) (at : ℕ) (whole : length order ≤ at) (within : at ≤ length order) (below : AskedBelow asked order at) where
-    -- the question about two heads was asked, in whichever order they stand
+    -- the query about two heads was asked, in whichever order they stand
     among : (k l i j : ℕ) → k < l → l < length order → (head_at order k).index ≡ i → (head_at order l).index ≡ j → related (get_or heads i []) (get_or heads j []) ≡ true → Contains below.questions (question_of (head_at order k) (head_at order l))
     among k l i j less inside a b e =
         let p = (head_at order k).path in
@@ -179,7 +179,7 @@ module _ (heads : List Path) (order : List Head) (is_order : IsOrderOf heads ord
     later : (x : Question) → IsAskedOf order at x → IsAskedOf order (at + 1) x
     later x of = record { first = of.first; second = of.second; less = of.less; below = (let l = of.below in omega arith); begins = of.begins; is = of.is }
 
-    -- the question is a new one
+    -- the query is a new one
     abbrev IsNew : Question → Type 0
     IsNew x = (q : ℕ) × (q < at) × (x ≡ ask q)
 
@@ -210,7 +210,7 @@ module _ (heads : List Path) (order : List Head) (is_order : IsOrderOf heads ord
       up : AllPairs ◌<◌ (filter begins open')
       up = AllPairs-filter ◌<◌ begins open' is_open.rising
 
-      -- so many of the questions about the next head were asked
+      -- so many of the queries about the next head were asked
       pub asked_part : (questions : List Question) → AreAskedOf order at questions → (many : ℕ) → AreAskedOf order (at + 1) (questions ++ questions_at order at (take many (filter begins open')))
       asked_part questions are many = asked_more questions are (take many (filter begins open')) (All-take (λ q. q < at) many (filter begins open') low)
           (All-take (λ q. begins q ≡ true) many (filter begins open') (filter_passes begins open')) (AllPairs-take ◌<◌ many (filter begins open') up)

@@ -147,7 +147,7 @@ module _ (lines : List Line) (are : All IsLine lines) (pairs : List Pair)
   abbrev copies : ℕ
   copies = length (sources_of lines)
 
-  -- what stands at each number
+  -- the object at each number
   abbrev first_part : List Reach
   first_part = map reach_of lines ++ map reach_under (sources_of lines)
 

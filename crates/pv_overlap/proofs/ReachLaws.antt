@@ -1,4 +1,4 @@
--- What a line reaches is its reach, but for staging names below; and a path that two lines reach can be cut to one without.
+-- What a line reaches is its reach, except for staging names below; and a path that two lines reach can be cut to one without.
 use Rattle.std.proofs.Common.{◌≡◌, ℕ, zero, suc, ◌+◌, ◌<◌, ◌≤◌, max, ◌⊎◌, inl, inr, Bool, true, false, not, ◌&&◌, ◌||◌, nat_lt, List, [], ◌∷◌, ◌++◌, length, take, drop, map, get_or, refl, sym, ap, ◌∙◌, subst, arith}
 use Rattle.std.specs.List.{list_all, list_any, range_with_len}
 use Rattle.std.specs.Ordering.{nat_cmp, is_gt, on, ordering_then}

@@ -19,7 +19,7 @@ use Rattle.pv_overlap.specs.Subjects.{MayAnswer, reaches_of}
 use Rattle.pv_overlap.proofs.MarkLaws.{each_reason, lists_overlaps, mark_of}
 use Rattle.pv_overlap.proofs.Members.{first_in, in_cases, in_none, later_in}
 
--- no reason is listed exactly where the lines may be carried out twice
+-- no reason is listed exactly if the lines may be carried out twice
 pub none_listed : (lines : List Line) (list : List Unrepeatable) → ListsReasons lines list → (list ≡ []) ↔ IsRepeatable lines
 none_listed lines [] lists = (λ e i r has. in_none (record { line = i; reason = r }) ((lists.exact (record { line = i; reason = r })).1 has), λ none. refl)
 none_listed lines (u ∷ list) lists = (

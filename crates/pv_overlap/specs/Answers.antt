@@ -15,7 +15,7 @@ SameAnswers old new = (i j : ℕ) (answer : Option Path) → old i j answer ↔ 
 abbrev pub IsAnswered : Answers → ℕ → Pair → Type 0
 IsAnswered answers heads pair = (pair.first < pair.second) × (pair.second < heads) × answers pair.first pair.second (Some pair.path)
 
--- two heads are among the pairs, or there is no path for them
+-- two heads are among the pairs, or there is not a path for them
 abbrev pub IsTold : Answers → List Pair → ℕ → ℕ → Type 0
 IsTold answers pairs i j = ((path : Path) × Contains pairs (record { first = i; second = j; path = path })) ⊎ answers i j None
 

@@ -34,7 +34,7 @@ shared_text first second path = codes "overlap " ++ first ++ codes " " ++ second
 abbrev pub overlap_text : List Line → Pair → List ℕ
 overlap_text lines pair = shared_text (line_text lines pair.first) (line_text lines pair.second) pair.path
 
--- a line has a reason
+-- a line has a hazard
 abbrev pub unrepeatable_text : List Line → Unrepeatable → List ℕ
 unrepeatable_text lines u = codes "unrepeatable " ++ line_text lines u.line ++ codes " " ++ reason_text u.reason
 

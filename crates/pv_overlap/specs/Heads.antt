@@ -7,7 +7,7 @@ use Rattle.pv_path.specs.Paths.{Path, is_prefix}
 use Rattle.pv_glob.specs.declared.element.Element.{Element}
 use Rattle.pv_glob.specs.Written.{written}
 
--- the path of the leading components of written bytes, ended before the first that is no name
+-- the path of the leading components of written bytes, ended before the first that is not a name
 abbrev pub head_of : List (List Element) → Path
 head_of [] = []
 head_of (component ∷ components) = option_map_or (λ name. if is_name name then name ∷ head_of components else []) (written component) []

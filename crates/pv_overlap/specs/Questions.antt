@@ -3,7 +3,7 @@ use Rattle.std.specs.Prelude.{◌≡◌, ◌≢◌, ℕ, ◌<◌, Bool, true, Li
 use Rattle.pv_path.specs.Paths.{Path}
 use Rattle.pv_overlap.specs.Heads.{related}
 
--- a question about two heads: their numbers, counted from 0, the lesser first
+-- a query about two heads: their numbers, counted from 0, the lesser first
 abbrev pub Question : Type 0
 Question = ℕ × ℕ
 
@@ -11,7 +11,7 @@ Question = ℕ × ℕ
 abbrev pub IsQuestion : List Path → Question → Type 0
 IsQuestion heads question = (question.0 < question.1) × (question.1 < length heads) × (related (slice_index_or heads question.0 []) (slice_index_or heads question.1 []) ≡ true)
 
--- by what questions lead from an asker to what it is later, it was asked some about these heads: only those that there
+-- by what queries lead from an asker to what it is later, it was asked some about these heads: only those that there
 -- are, none twice, and where `whole` all of them
 pub record WasAsked (asked : List Question → Type 0) (heads : List Path) (whole : Bool) : Type 0 where
   pub questions : List Question

@@ -33,7 +33,7 @@ pub record IsOpen (order : List Head) (at : ℕ) (open' : List ℕ) : Type 0 whe
   pub rising : AllPairs ◌<◌ open'
   pub all : (q p : ℕ) → q < at → at ≤ p → p < length order → is_prefix (head_at order q).path (head_at order p).path ≡ true → Contains open' q
 
--- the question about two heads, and those about the head at a place and some others, by their places
+-- the query about two heads, and those about the head at a place and some others, by their places
 abbrev pub question_of : Head → Head → Question
 question_of a b = (min a.index b.index, max a.index b.index)
 

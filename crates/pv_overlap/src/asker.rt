@@ -16,10 +16,10 @@ pub trait Asker {
     /// What may be answered for each two heads: a path or none. No call changes it.
     ghost answers: { Self → Answers };
 
-    /// How questions move an asker: what holds between an asker and what it is after it was asked these, in order.
+    /// How queries change an asker: the relation between it before and after these queries, in order.
     ghost asked: { Self → Self → List Question → Type 0 };
 
-    /// The path for two heads, by their numbers counted from 0, or nothing where there is none.
+    /// The path for two heads, by their numbers counted from 0, or nothing if there is none.
     fn ask(&mut self, alloc: Global, i: u32, j: u32) -> Result<Option<TreePath>, AllocError>
         requires order { i < j }
         requires inside { j < length (heads self.old) }

@@ -52,8 +52,8 @@ fn common_with(alloc: Global, path: TreePath, plains: &[Plain]) -> Result<TreePa
 }
 
 /// The head of a pattern: the longest path that is a prefix of the head of each expansion. The head of a pattern
-/// without braces is the path of its leading components that spell one name alone (glob(7)), ended before the first
-/// whose bytes are no name; of one that matches one path alone it is that path.
+/// without braces is the path of its leading components that match one name alone (glob(7)). It ends before the first
+/// whose bytes are not a name. For a pattern that matches one path alone it is that path.
 pub fn head(alloc: Global, pattern: &Pattern) -> Result<TreePath, AllocError>
     ensures { IfOk result (λ head. head ≡ head_of_all pattern.now) }
 {

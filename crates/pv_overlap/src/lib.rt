@@ -1,5 +1,6 @@
-//! The report on lines of a configuration (tmpfiles.d(5)): which of them share a path, asked only where their heads allow
-//! it, and which have a hazard, so that carrying out the lines twice may leave something else than carrying them out once.
+//! The report on the lines of a configuration (tmpfiles.d(5)). It says which lines share a path, and asks only for
+//! those whose heads allow it. It says which lines have a hazard, so that running them twice may leave something other
+//! than running them once.
 #![tactic(auto)]
 
 mod alike;

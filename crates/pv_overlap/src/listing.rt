@@ -3,7 +3,7 @@ use crate::pair::PairList;
 use pv_path::Sequence;
 use pv_table::Reason;
 
-/// A line, by its number counted from 0, and a reason that it has.
+/// A line, by its number counted from 0, and a hazard of it.
 #[derive(Drop)]
 pub struct Unrepeatable {
     /// The number of the line.
@@ -15,7 +15,7 @@ pub struct Unrepeatable {
 /// Lines with their reasons, in some order.
 pub type ReasonList = Sequence<Unrepeatable>;
 
-/// Which lines share a path, and which have a reason against repeating.
+/// Which lines share a path, and which have a hazard.
 #[derive(Drop)]
 pub struct Report {
     /// Each two lines that share a path, with the first such path, in the order of their numbers.

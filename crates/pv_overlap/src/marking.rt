@@ -21,7 +21,7 @@ use pv_path::{Name, names_under};
 use pv_table::{Reason, is_creating};
 use std::alloc::{AllocError, Global};
 
-/// The number of a line, and the place of a reason in the table of reasons.
+/// The number of a line, and the index of a hazard in the table of hazards.
 type Mark = (u32, u32);
 
 /// The reason at a place of the table.

@@ -80,7 +80,7 @@ impl<'a> Meeting<'a> {
         self.firsts[i as usize]
     }
 
-    /// The first path that two reaches share, or nothing where they share none.
+    /// The first path that two reaches share, or nothing if they share none.
     fn met(&self, alloc: Global, i: u32, j: u32) -> Result<Option<TreePath>, AllocError>
         requires i { i < length self.now.0 }
         requires j { j < length self.now.0 }

@@ -15,7 +15,7 @@ use pv_table::Reason;
 use pv_text::{Messages, OneLine};
 use std::alloc::{AllocError, Global};
 
-/// The words for a reason.
+/// The words for a hazard.
 fn reason_text(reason: Reason) -> &'static [u8]
     ensures text { result.now ≡ reason_text reason }
     ensures line { is_line result.now ≡ true }
@@ -161,8 +161,8 @@ fn say_reasons(
     Ok(())
 }
 
-/// Says what a report on lines lists: each two lines that share a path, each line with each of its reasons, and whether
-/// there is none. The last message on a report of these lines is `repeatable` exactly where no line has a reason. After
+/// Says what a report on lines lists: each two lines that share a path, each line with each of its hazards, and whether
+/// there is none. The last message on a report of these lines is `repeatable` exactly if no line has a hazard. After
 /// running out of memory the first of these messages were said, and no others.
 pub fn say_report(
     alloc: Global,

@@ -26,7 +26,7 @@ fn source_of(alloc: Global, line: &Line) -> Result<Option<TreePath>, AllocError>
     }
 }
 
-/// Adds a path, where there is one.
+/// Adds a path, if there is one.
 fn add_source(sources: &mut PathList, source: Option<TreePath>) -> Result<(), AllocError>
     ensures { OnOk result (sources.new ≡ sources.old ++ option_to_list source) }
 {

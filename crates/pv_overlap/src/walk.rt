@@ -155,8 +155,8 @@ fn listed(alloc: Global, found: Found) -> Result<PairList, AllocError>
 }
 
 /// The pairs of heads for which the asker has a path, in the order of their numbers. It asks only about heads one of
-/// which is a prefix of the other, and finds these by a walk over the heads in order, which keeps those open that
-/// begin the next head.
+/// which is a prefix of the other. It finds these by a walk over the heads in order, and keeps those open that are a
+/// prefix of the next head.
 pub fn pairs_by<A: Asker>(
     alloc: Global,
     heads: &PathList,

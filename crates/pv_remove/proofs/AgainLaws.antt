@@ -55,7 +55,7 @@ module _ (lines : List Line) (are : AllByRecursion IsLine lines) (t : Files) (tr
   is_open line p = is_some (refused_place line (places t) p) || keeps lines line t p
 
   module _ (line : Line) (closed : list_any (is_open line) (judged line t) ≡ false) where
-    -- what is there and named is judged, but for D
+    -- what is there and named is judged, except for D
     closed_at : judged line t ≡ filter (names line) (fin.keys t) → (p : Path) → names line p ≡ true → is_some (places t p) ≡ true → is_open line p ≡ false
     closed_at e p named there = false_from_ne_true (is_open line p) (λ h.
         true_not_false (list_any (is_open line) (judged line t)) (ap (list_any (is_open line)) e ∙ in_any (names line) (is_open line) (fin.keys t) p (key_there t tree line p p there) named h) closed)

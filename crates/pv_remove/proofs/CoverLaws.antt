@@ -103,7 +103,7 @@ from_range f n h =
     let there : get_or (range_with_len 0 n) found.0 found.1 ≡ found.0 = omega (arith, get_or-range_with_len 0 n found.0 found.1 within) in
     (found.0, within, ap f (sym there ∙ found.3) ∙ found.4)
 
--- a test of one item more, of what stands at a path
+-- a test of one item more, of the object at a path
 pub both_or : {A : Type 0} (f : A → Bool) (there : Bool) (items : List A) (i : ℕ) (x : A) (old : Bool) → i < length items → x ≡ get_or items i x
     → old ≡ (there && list_any f (take i items)) → (old || (there && f x)) ≡ (there && list_any f (take (i + 1) items))
 both_or f there items i x old within is before =

@@ -16,8 +16,8 @@ use Rattle.pv_walk.specs.Whole.{goes_whole, all_at}
 use Rattle.pv_walk.proofs.WholeLaws.{goes_whole-same, all_at-each, each-all_at}
 use Rattle.pv_table.specs.Reaching.{path_in}
 use Rattle.pv_table.specs.Removed.{covers, is_gone, is_purged, purged, purges, refused_place, removed}
-use Rattle.pv_remove.specs.Ended.{IsMended}
-use Rattle.pv_remove.proofs.StopLaws.{purge_mends, removal_mends, run_mends}
+use Rattle.pv_remove.specs.Ended.{Recovers}
+use Rattle.pv_remove.proofs.StopLaws.{purge_recovers, removal_recovers, run_recovers}
 use Rattle.pv_path.proofs.Tests.{same_tests}
 use Rattle.pv_table.proofs.GoingLaws.{any_weaken, goes_again}
 
@@ -38,10 +38,10 @@ covered_there lines t covered are q h = by (is_some (places t q)) (list_any (λ 
     by true b h = refl
     by false b h = absurd (let wrong : false ≡ true = h in cc)
 
--- the stop law of the remove phase
-pub removal_mended : (lines : List Line) (Q : Step → Type 0) (now : ℕ) (t : Files) (h : List Step) (u : Files) (k : List Step) → now < 2 ^ 64 → IsTree t
-    → Ran (Pruned (is_gone lines t) t) Q now t h u k → IsMended (removed lines) now t (drop (length h) k)
-removal_mended lines Q now t h u k fits tree run = run_mends (removed lines) (is_gone lines t) Q now t h u k fits tree (λ later v there pruned. removal_mends lines now later t v there pruned) run
+-- crash safety of the remove phase
+pub removal_recovered : (lines : List Line) (Q : Step → Type 0) (now : ℕ) (t : Files) (h : List Step) (u : Files) (k : List Step) → now < 2 ^ 64 → IsTree t
+    → Ran (Pruned (is_gone lines t) t) Q now t h u k → Recovers (removed lines) now t (drop (length h) k)
+removal_recovered lines Q now t h u k fits tree run = run_recovers (removed lines) (is_gone lines t) Q now t h u k fits tree (λ later v there pruned. removal_recovers lines now later t v there pruned) run
 
 -- ---- purging
 
@@ -100,7 +100,7 @@ purged_there lines t listed are q h = by (is_some (places t q)) (list_any (λ li
 pub purged_together : (keys : List Path) (lines : List Line) (t : Files) → ((q : Path) → is_one_of keys q ≡ is_purged lines t q) → (q : Path) → is_one_of keys q ≡ goes_whole (is_one_of keys) t q
 purged_together keys lines t members = goes_together keys (λ r. list_any (λ line. purges line (places t) r) lines) t (λ q. members q ∙ sym (purges_whole lines t q))
 
--- the stop law of purging
-pub purge_mended : (lines : List Line) (Q : Step → Type 0) (now : ℕ) (t : Files) (h : List Step) (u : Files) (k : List Step) → now < 2 ^ 64 → IsTree t
-    → Ran (Pruned (is_purged lines t) t) Q now t h u k → IsMended (purged lines) now t (drop (length h) k)
-purge_mended lines Q now t h u k fits tree run = run_mends (purged lines) (is_purged lines t) Q now t h u k fits tree (λ later v there pruned. purge_mends lines now later t v there pruned) run
+-- crash safety of purging
+pub purge_recovered : (lines : List Line) (Q : Step → Type 0) (now : ℕ) (t : Files) (h : List Step) (u : Files) (k : List Step) → now < 2 ^ 64 → IsTree t
+    → Ran (Pruned (is_purged lines t) t) Q now t h u k → Recovers (purged lines) now t (drop (length h) k)
+purge_recovered lines Q now t h u k fits tree run = run_recovers (purged lines) (is_purged lines t) Q now t h u k fits tree (λ later v there pruned. purge_recovers lines now later t v there pruned) run

@@ -18,11 +18,7 @@ use Rattle.pv_remove.specs.Sentences.{is_gone_by, takes_by}
 use Rattle.pv_table.specs.Children.{children_go}
 use Rattle.pv_remove.proofs.CoverLaws.{from_range}
 use Rattle.pv_table.proofs.GoingLaws.{in_range}
-use Rattle.pv_table.proofs.ChildrenLaws.{all_lengths, children_all, children_go-same, one_alone}
-
--- ---- what is said by the children of a path is said of one predicate
-
-unfolding all_lengths
+use Rattle.pv_table.proofs.ChildrenLaws.{children_all, children_go-same, one_alone}
 
 -- ---- what is gone
 

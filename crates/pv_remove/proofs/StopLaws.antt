@@ -26,14 +26,14 @@ use Rattle.pv_table.specs.ActionTable.{taking_of}
 use Rattle.pv_table.specs.Reaching.{names, path_in}
 use Rattle.pv_table.specs.Removed.{covers, is_directory_at, is_gone, is_named, files_without, is_purged, owner_given, purges, purged, refused_place, removed}
 use Rattle.pv_walk.specs.Whole.{all_at}
-use Rattle.pv_remove.specs.Ended.{IsMended}
+use Rattle.pv_remove.specs.Ended.{Recovers}
 use Rattle.pv_path.proofs.Tests.{same_tests}
 use Rattle.pv_table.proofs.QuietLaws.{kind_object_state, present_object_state}
 use Rattle.pv_table.proofs.GoingLaws.{places-without}
 
 -- ---- what a tree without some paths has
 
--- stamps aside, where only stamps change
+-- timestamps aside, where only timestamps change
 pub object_states-without : (goes : Path → Bool) (change : Object → Object) → ((o : Object) → object_state (change o) ≡ object_state o) → (t : Files) (q : Path) → object_states (places (files_without goes change t)) q ≡ cond (goes q) None (object_states (places t) q)
 object_states-without goes change keeps t q = ap (option_map object_state) (places-without goes change t q) ∙ by (goes q) (loses_child goes t q) (places t q)
   where
@@ -132,7 +132,7 @@ module _ (inside : Path → Bool) (t u : Files) (pruned : Pruned inside t u) whe
                 off true x y = refl
                 off false x y = refl
 
--- what a whole run leaves from there is what it leaves from the start, where what is still there is judged alike
+-- what a complete run leaves from there is what it leaves from the start, where what is still there is judged alike
 same_end : (goes_t goes_u : Path → Bool) (now later : ℕ) (t u : Files) → Pruned goes_t t u → ((q : Path) → is_some (places u q) ≡ true → goes_u q ≡ goes_t q) → ((q : Path) → goes_u q ≡ true → is_some (places u q) ≡ true)
     → Same (files_without goes_u (modified later) u) (files_without goes_t (modified now) t)
 same_end goes_t goes_u now later t u pruned alike there q plain =
@@ -181,13 +181,13 @@ gone-same lines t u pruned tree q there = same_tests (is_gone lines u q) (is_gon
         some_covers-same (is_gone lines t) t u pruned tree lines r at
         ∙ all_at-each (λ p. list_any (λ line. covers line (places t) p) lines) t q parts.2 r (was_there (is_gone lines t) t u pruned r at) under))
 
-pub removal_mends : (lines : List Line) (now later : ℕ) (t u : Files) → IsTree u → Pruned (is_gone lines t) t u → Same (removed lines later u) (removed lines now t)
-removal_mends lines now later t u tree pruned =
+pub removal_recovers : (lines : List Line) (now later : ℕ) (t u : Files) → IsTree u → Pruned (is_gone lines t) t u → Same (removed lines later u) (removed lines now t)
+removal_recovers lines now later t u tree pruned =
     same_end (is_gone lines t) (is_gone lines u) now later t u pruned (gone-same lines t u pruned tree)
     (λ q h. (goes_parts (λ r. list_any (λ line. covers line (places u) r) lines) u q h).0)
 
-pub purge_mends : (lines : List Line) (now later : ℕ) (t u : Files) → IsTree u → Pruned (is_purged lines t) t u → Same (purged lines later u) (purged lines now t)
-purge_mends lines now later t u tree pruned =
+pub purge_recovers : (lines : List Line) (now later : ℕ) (t u : Files) → IsTree u → Pruned (is_purged lines t) t u → Same (purged lines later u) (purged lines now t)
+purge_recovers lines now later t u tree pruned =
     same_end (is_purged lines t) (is_purged lines u) now later t u pruned
     (λ q there. rw (there, was_there (is_purged lines t) t u pruned q there, purges-same (is_purged lines t) t u pruned tree lines q there) refl)
     (λ q h. first (is_some (places u q)) (not (length q == 0)) (list_any (λ line. purges line (places u) q) lines) h)
@@ -198,9 +198,9 @@ purge_mends lines now later t u tree pruned =
 
 -- ---- runs that were cut short
 
-pub run_mends : (whole : ℕ → Files → Files) (goes : Path → Bool) → (Q : Step → Type 0) (now : ℕ) (t : Files) (h : List Step) (u : Files) (k : List Step) → now < 2 ^ 64 → IsTree t
-    → ((later : ℕ) (v : Files) → IsTree v → Pruned goes t v → Same (whole later v) (whole now t)) → Ran (Pruned goes t) Q now t h u k → IsMended whole now t (drop (length h) k)
-run_mends whole goes Q now t h u k fits tree mends run = subst (IsMended whole now t) (sym (ap (drop (length h)) run.recorded ∙ drop-append_seam h run.steps)) (λ n later.
-    mends later (after_all t (take n run.steps) now)
+pub run_recovers : (whole : ℕ → Files → Files) (goes : Path → Bool) → (Q : Step → Type 0) (now : ℕ) (t : Files) (h : List Step) (u : Files) (k : List Step) → now < 2 ^ 64 → IsTree t
+    → ((later : ℕ) (v : Files) → IsTree v → Pruned goes t v → Same (whole later v) (whole now t)) → Ran (Pruned goes t) Q now t h u k → Recovers whole now t (drop (length h) k)
+run_recovers whole goes Q now t h u k fits tree recovery run = subst (Recovers whole now t) (sym (ap (drop (length h)) run.recorded ∙ drop-append_seam h run.steps)) (λ n later.
+    recovery later (after_all t (take n run.steps) now)
     (along_prefix IsTree t run.steps now n (along_trees (Pruned goes t) t run.steps now fits tree run.along))
     (along_prefix (Pruned goes t) t run.steps now n run.along))

@@ -1,6 +1,6 @@
--- What a phase that takes away does, says and answers, and that one which was cut short is mended by the next
+-- What a phase that takes away does, says and answers, and that one which was cut short recovers by the next
 -- (tmpfiles.d(5), r, R and D; systemd-tmpfiles(8), --purge).
-use Rattle.std.specs.Prelude.{◌≡◌, ℕ, Bool, List, ◌++◌, drop, length, map, take, Result, IfOk, IsErrOf, OnOk}
+use Rattle.std.specs.Prelude.{◌≡◌, ℕ, Bool, List, ◌++◌, length, map, take, Result, IfOk, IsErrOf, OnOk}
 use Rattle.pv_steps.specs.declared.carried.Carried.{Carried}
 use Rattle.pv_steps.specs.Courses.{carried_of}
 use Rattle.pv_walk.specs.Edits.{Pruned}
@@ -10,7 +10,7 @@ use Rattle.pv_steps.specs.declared.step.Step.{Step}
 use Rattle.pv_steps.specs.declared.tree.Tree.{Ghosts}
 use Rattle.pv_steps.specs.declared.tree.TreeFault.{TreeFault}
 use Rattle.pv_steps.specs.declared.tree.TreeFault.TheVariants.{Failed}
-use Rattle.pv_steps.specs.Acting.{Acted}
+use Rattle.pv_steps.specs.Acting.{Acted, steps_done}
 use Rattle.pv_steps.specs.Content.{Removes}
 use Rattle.pv_steps.specs.Objects.{modified}
 use Rattle.pv_steps.specs.Trees.{Files}
@@ -28,12 +28,12 @@ pub data TakesInOrder (goes : Path → Bool) (t : Files) (before behind : List S
 
 -- a phase takes away the paths that go, and then says some texts: where it answers Ok it leaves the tree without these
 -- paths, has done one step for each path that goes, has said all the texts, and tells whether something is unfinished;
--- whatever it answers, it has said a front part of them, or none where a step was refused, and has gone by steps each of
+-- whatever it answers, it has said a prefix of them, or none where a step was refused, and has gone by steps each of
 -- which takes away a path that goes, the deepest first, those of one depth in byte order
 pub record TakesAway {S : Type 0} (tree : Ghosts S) (goes : Path → Bool) (texts : List (List ℕ)) (unfinished : Bool)
     (now : ℕ) (old new : S) (before behind : List (List ℕ)) (r : Result Carried TreeFault) : Type 0 where
   pub ok : OnOk r (tree.state new ≡ files_without goes (modified now) (tree.state old))
-  pub exact : OnOk r (length (drop (length (tree.steps old)) (tree.steps new)) ≡ count_of goes (tree.state old))
+  pub exact : OnOk r (length (steps_done tree old new) ≡ count_of goes (tree.state old))
   pub new_messages : OnOk r (behind ≡ before ++ texts)
   pub carried : IfOk r (λ c. c ≡ carried_of unfinished)
   pub part : MessagesPart texts before behind
@@ -41,7 +41,7 @@ pub record TakesAway {S : Type 0} (tree : Ghosts S) (goes : Path → Bool) (text
   pub acted : Acted tree (Pruned goes (tree.state old)) (Removes goes) (count_of goes (tree.state old)) now old new r
   pub order : TakesInOrder goes (tree.state old) (tree.steps old) (tree.steps new)
 
--- after each number of these steps a whole run, at whatever moment, leaves what a whole run leaves from the start;
--- stamps and staging names aside
-abbrev pub IsMended : (ℕ → Files → Files) → ℕ → Files → List Step → Type 0
-IsMended whole now t steps = (n later : ℕ) → Same (whole later (after_all t (take n steps) now)) (whole now t)
+-- after each number of these steps a complete run, at whatever moment, leaves what a complete run leaves from the start;
+-- timestamps and staging names aside
+abbrev pub Recovers : (ℕ → Files → Files) → ℕ → Files → List Step → Type 0
+Recovers whole now t steps = (n later : ℕ) → Same (whole later (after_all t (take n steps) now)) (whole now t)

@@ -10,8 +10,8 @@ use Rattle.pv_table.specs.ActionTable.{taking_of}
 use Rattle.pv_table.specs.Removed.{is_directory_at, is_named}
 use Rattle.pv_table.specs.Children.{children_go}
 
--- a line, where it is not refused, takes a path: R names it or what it lies below; D names a directory that it lies below;
--- r names it, and it is no directory or all that stands in it goes
+-- a line, if it is not refused, takes a path: R names it or what it lies below; D names a directory that it lies below;
+-- r names it, and it is not a directory or all that stands in it goes
 abbrev pub takes_by : (Path → Bool) → Line → Files → Path → Bool
 takes_by goes line t path = by (taking_of line)
   where

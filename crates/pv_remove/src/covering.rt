@@ -108,7 +108,7 @@ fn taken_paths<T: Tree>(
     }
 }
 
-/// The owner that an absent last place counts as: the line's user, else root.
+/// The owner that an absent last place counts as: the line's user, otherwise root.
 fn owner_given(line: &Line) -> u32
     ensures { result ≡ owner_given line.now }
 {

@@ -110,7 +110,7 @@ fn judge_path<T: Tree>(
     }
 }
 
-/// Says of a line at a path where it is not refused what is to be said, and whether something was kept.
+/// Says of a line at a path if it is not refused what is to be said, and whether something was kept.
 fn judge_unrefused<T: Tree>(
     alloc: Global,
     tree: &T,
@@ -164,7 +164,7 @@ fn not_empty(alloc: Global, path: &TreePath) -> Result<Vec<u8>, AllocError>
     Ok(text)
 }
 
-/// Says that what is no directory is left.
+/// Says that an object that is not a directory is left.
 fn say_left_kind<T: Tree>(
     alloc: Global,
     tree: &T,

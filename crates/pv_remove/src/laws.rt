@@ -1,5 +1,5 @@
-//! Laws of removals and purges that were cut short, of what both take, and of what they leave on their way. Each function
-//! does nothing; its contract is the law.
+//! Laws of removals and purges that were cut short, of what both remove, and of their intermediate states. Each
+//! function does nothing; its contract is the law.
 ghost use Rattle.std.specs.Prelude.{◌≡◌, ℕ, ◌<◌, ◌^◌, Bool, List, true, false, is_some};
 ghost use Rattle.std.specs.List.{AllByRecursion, list_any};
 ghost use Rattle.pv_lines.specs.declared.line.Line.{Line as LineValue};
@@ -16,38 +16,39 @@ ghost use Rattle.pv_layers.specs.Places.{is_input};
 ghost use Rattle.pv_table.specs.Repeatable.{HasReason};
 ghost use Rattle.pv_remove.specs.Sentences.{is_gone_by};
 
-/// From a tree in which a removal may have been cut short, a whole removal leaves what it leaves from the start, at
-/// whatever moment, whatever the lines; timestamps and staging names aside.
-pub fn a_removal_cut_short_is_mended()
+/// Removing recovers. Over a tree in which a removal may have been cut short, a complete removal leaves what it leaves
+/// from the start. The moment and the lines may be any. Timestamps and staging names are left out.
+pub fn a_removal_cut_short_recovers()
     ensures { (lines : List LineValue) (now later : ℕ) (t u : Files) → IsTree u → Pruned (is_gone lines t) t u
         → Same (removed lines later u) (removed lines now t) }
 {}
 
 /// After a purge that was cut short a whole one leaves what it leaves from the start; timestamps and staging names
 /// aside.
-pub fn a_purge_cut_short_is_mended()
+pub fn a_purge_cut_short_recovers()
     ensures { (lines : List LineValue) (now later : ℕ) (t u : Files) → IsTree u → Pruned (is_purged lines t) t u
         → Same (purged lines later u) (purged lines now t) }
 {}
 
-/// Lines none of which may change what lines are read from leave, at each moment on the way of the remove phase, presence,
-/// kind and payload at each path from which lines are read.
+/// The remove phase keeps what lines are read from, if no line may change that. In each intermediate state presence,
+/// kind and payload are as before at each path from which lines are read.
 pub fn a_removal_leaves_what_lines_are_read_from()
     ensures { (lines : List LineValue) (t u : Files) (q : Path) → IsTree t → AllByRecursion IsLine lines
         → ((i : ℕ) → HasReason lines i reason.Input → ⊥) → Pruned (is_gone lines t) t u → is_input q ≡ true
         → content_of (places u q) ≡ content_of (places t q) }
 {}
 
-/// Purging leaves on its way what lines are read from, where no line may change that.
+/// Purging keeps in each intermediate state what lines are read from, if no line may change that.
 pub fn a_purge_leaves_what_lines_are_read_from()
     ensures { (lines : List LineValue) (t u : Files) (q : Path) → IsTree t → AllByRecursion IsLine lines
         → ((i : ℕ) → HasReason lines i reason.Input → ⊥) → Pruned (is_purged lines t) t u → is_input q ≡ true
         → content_of (places u q) ≡ content_of (places t q) }
 {}
 
-/// What is gone is what the manual says of a path by what is gone of what stands in it: a present path other than the root,
-/// where a line that is not refused takes it, R what it names and all below, D all below a directory that it names, r what
-/// it names, where that is no directory or all that stands in it is gone.
+/// The paths that are removed are those of the manual (tmpfiles.d(5)). A present path other than the root is removed
+/// exactly if a line that is not refused takes it. `R` takes the path that it names and all below it. `D` takes all
+/// below a directory that it names. `r` takes the path that it names if that is not a directory, or all in it is
+/// removed.
 pub fn what_is_gone_is_as_the_manual_says()
     ensures { (lines : List LineValue) (t : Files) (q : Path) → IsTree t → is_gone lines t q ≡ is_gone_by (is_gone lines t) lines t q }
 {}

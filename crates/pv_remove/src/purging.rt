@@ -1,5 +1,5 @@
 //! Purging: lines with `$`.
-ghost use Rattle.std.specs.Prelude.{◌≡◌, ◌&&◌, ◌||◌, ◌++◌, drop, length, map, is_some, IfOk, OnOk};
+ghost use Rattle.std.specs.Prelude.{◌≡◌, ◌&&◌, ◌||◌, ◌++◌, map, is_some, IfOk, OnOk};
 ghost use Rattle.std.specs.List.{AllByRecursion, list_any};
 ghost use Rattle.pv_lines.specs.Lines.{IsLine};
 ghost use Rattle.pv_path.specs.Paths.{Path};
@@ -8,7 +8,8 @@ ghost use Rattle.pv_text.specs.GivenMessages.{message_text_at};
 ghost use Rattle.pv_walk.specs.Removal.{is_one_of};
 ghost use Rattle.pv_table.specs.Reaching.{path_in};
 ghost use Rattle.pv_table.specs.Removed.{is_purge_unfinished, is_purged, purge_refusal, purge_texts, purged, purged_messages, purges};
-ghost use Rattle.pv_remove.specs.Ended.{IsMended, TakesAway};
+ghost use Rattle.pv_remove.specs.Ended.{Recovers, TakesAway};
+ghost use Rattle.pv_steps.specs.Acting.{steps_done};
 
 use crate::covering::refusal;
 use crate::plan::{Plan, apply_plan};
@@ -20,8 +21,8 @@ use pv_text::Messages;
 use pv_walk::{at_and_below, whole_of};
 use std::alloc::{AllocError, Global};
 
-/// Takes away what lines with `$` name, each with all below it (systemd-tmpfiles(8), --purge), as all of it is judged in
-/// the tree before the phase: the deepest paths first, those of one depth in byte order; then says which of the lines are
+/// Removes what lines with `$` name, each with all below it (systemd-tmpfiles(8), --purge). All is judged in the tree
+/// before the phase. The deepest paths go first, those of one depth in byte order. Then it says which of the lines are
 /// refused, in listing order.
 pub fn purge_run<T: Tree>(
     alloc: Global,
@@ -30,13 +31,12 @@ pub fn purge_run<T: Tree>(
     now: u64,
     messages: &mut Messages,
 ) -> Result<Carried, TreeFault>
-    // What it leaves, stamps included, what it says, how it ends, and by which steps.
+    // What it leaves, timestamps included, what it says, how it ends, and by which steps.
     ensures run { TakesAway T.Tree (is_purged table.now (T.state tree.old)) (purged_messages table.now (T.state tree.old))
         (is_purge_unfinished table.now (T.state tree.old)) now tree.old tree.new messages.old messages.new result }
 
-    // The stop law.
-    ensures mended { IsMended (purged table.now) now (T.state tree.old)
-        (drop (length (T.steps tree.old)) (T.steps tree.new)) }
+    // Crash safety.
+    ensures recovers { Recovers (purged table.now) now (T.state tree.old) (steps_done T.Tree tree.old tree.new) }
 {
     let plan = purge_plan(alloc, tree, table)?;
     apply_plan(alloc, tree, plan, now, messages)

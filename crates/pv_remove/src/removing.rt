@@ -1,10 +1,11 @@
 //! The remove phase.
-ghost use Rattle.std.specs.Prelude.{◌≡◌, drop, length, IfOk};
+ghost use Rattle.std.specs.Prelude.{◌≡◌, IfOk};
 ghost use Rattle.pv_path.specs.Paths.{Path};
 ghost use Rattle.pv_steps.specs.Trees.{IsTree};
 ghost use Rattle.pv_walk.specs.Removal.{is_one_of};
 ghost use Rattle.pv_table.specs.Removed.{is_gone, is_unfinished, removed, removed_messages};
-ghost use Rattle.pv_remove.specs.Ended.{IsMended, TakesAway};
+ghost use Rattle.pv_remove.specs.Ended.{Recovers, TakesAway};
+ghost use Rattle.pv_steps.specs.Acting.{steps_done};
 
 use crate::covering::covered_paths;
 use crate::judging::judge;
@@ -15,8 +16,8 @@ use pv_text::Messages;
 use pv_walk::whole_of;
 use std::alloc::{AllocError, Global};
 
-/// Takes away what lines r, R and D name (tmpfiles.d(5)), as all of it is judged in the tree before the phase: the
-/// deepest paths first, those of one depth in byte order; then says what is to be said of each line, in listing order.
+/// Removes what lines r, R and D name (tmpfiles.d(5)). All is judged in the tree before the phase. The deepest paths go
+/// first, those of one depth in byte order. Then it says what is to be said of each line, in listing order.
 pub fn remove_run<T: Tree>(
     alloc: Global,
     tree: &mut T,
@@ -24,13 +25,12 @@ pub fn remove_run<T: Tree>(
     now: u64,
     messages: &mut Messages,
 ) -> Result<Carried, TreeFault>
-    // What it leaves, stamps included, what it says, how it ends, and by which steps.
+    // What it leaves, timestamps included, what it says, how it ends, and by which steps.
     ensures run { TakesAway T.Tree (is_gone table.now (T.state tree.old)) (removed_messages table.now (T.state tree.old))
         (is_unfinished table.now (T.state tree.old)) now tree.old tree.new messages.old messages.new result }
 
-    // The stop law.
-    ensures mended { IsMended (removed table.now) now (T.state tree.old)
-        (drop (length (T.steps tree.old)) (T.steps tree.new)) }
+    // Crash safety.
+    ensures recovers { Recovers (removed table.now) now (T.state tree.old) (steps_done T.Tree tree.old tree.new) }
 {
     let plan = removal_plan(alloc, tree, table)?;
     apply_plan(alloc, tree, plan, now, messages)

@@ -1,4 +1,4 @@
--- A run leaves each path that is neither /etc nor an account file, stamps and staging names aside.
+-- A run leaves each path that is neither /etc nor an account file, timestamps and staging names aside.
 use Rattle.std.specs.Prelude.{◌≡◌, ℕ, false, List, [], ◌∷◌, take, fold, Some}
 use Rattle.std.proofs.Common.{zero, suc, refl, ap, ◌∙◌, inl, inr}
 use Rattle.std.specs.List.{AllByRecursion}

@@ -1,4 +1,4 @@
--- Laws of the three steps that put /etc: it is made under its staging name, gets its mode, and comes to its path.
+-- Laws of the three steps that put /etc: it is made under its staging name, gets its mode, and is renamed into place.
 use Rattle.std.specs.Prelude.{◌≡◌, ◌≢◌, ℕ, [], Some, option_map, is_some, Result, Ok, Err, OnOk}
 use Rattle.std.proofs.Common.{refl, sym, ap, ◌∙◌, arith, lit≤}
 use Rattle.pv_path.specs.Paths.{is_prefix, staging_of}

@@ -142,7 +142,7 @@ module _ (made fewer : List ℕ → Bool) (less : (name : List ℕ) → fewer na
         let parts = all_both P (accounts_of made line) (flat_map (accounts_of made) lines) all in
         all_append P (accounts_of fewer line) (flat_map (accounts_of fewer) lines) (user_less line parts.0) (accounts_less lines parts.1)
 
--- a user who is made where more users are there is made where there are fewer
+-- a user who is made where more users are there is made if there are fewer
 made_before : (users more after : Ids) (lines : List Line) → AreAlike after (users ++ more) → (name : List ℕ) → is_made after lines name ≡ true → is_made users lines name ≡ true
 made_before users more after lines like name h = by (id_of users name) (is_named lines name) ((λ i. is_none (like.ids i name) && not (is_named lines name)) ∙ ap (λ o. is_none o && not (is_named lines name)) (id_append users more name)) h
   where
@@ -268,7 +268,7 @@ module _ (files : AccountFiles) (lines : List Line) (allowed : AllByRecursion Is
 
   -- ---- where /etc/passwd is as it was
 
-  -- the numbers are those of before, but for groups that are written
+  -- the numbers are those of before, except for groups that are written
   record AreAgain (group : List ℕ) (numbers : Numbers) : Type 0 where
     users_again : numbers.users ≡ new_users.made
     whole_again : numbers.lacking ≡ None

@@ -25,6 +25,6 @@ pub mod RunningLaws
 pub mod SameLaws
 pub mod BesideLaws
 pub mod StopLaws
-pub mod MendedLaws
+pub mod RecoveryLaws
 pub mod SweptLaws
 pub mod TurnLaws

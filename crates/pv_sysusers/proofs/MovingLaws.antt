@@ -41,7 +41,7 @@ once_again now true None = refl
 once_again now true (Some x) = refl
 once_again now false v = refl
 
--- ---- what is staged comes to its path
+-- ---- what is staged is renamed into place
 
 module _ (now : ℕ) (from to : Path) (some_from : from ≢ []) (some_to : to ≢ []) (together : parent_of from ≡ parent_of to) (o : Object) (fresh : changed now o ≡ o) (t : Places)
     (free : (rest : Path) → t (from ++ rest) ≡ None) (leaf : (n : List ℕ) (rest : Path) → t (to ++ n ∷ rest) ≡ None)

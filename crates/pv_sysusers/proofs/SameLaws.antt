@@ -1,4 +1,4 @@
--- Laws of runs over trees that differ in stamps and staging names alone: they plan the same, and leave the same.
+-- Laws of runs over trees that differ in timestamps and staging names alone: they plan the same, and leave the same.
 use Rattle.std.specs.Prelude.{◌≡◌, ◌⊎◌, ◌≤◌, ℕ, ◌+◌, ◌-◌, ◌==◌, nat_lt, Bool, true, false, not, ◌&&◌, cond, List, [], ◌∷◌, ◌++◌, length, map, take, Option, Some, None, is_some, option_map, option_and_then, unwrap_or, Result, Ok, Err, if◌then◌else◌}
 use Rattle.std.proofs.Common.{refl, sym, ap, subst, ◌∙◌, arith, inl, inr}
 use Rattle.std.specs.FinMap as fin
@@ -37,7 +37,7 @@ use Rattle.pv_sysusers.proofs.RunningLaws.{present_run}
 use Rattle.pv_path.proofs.PathLaws.{has_staging-take}
 use Rattle.pv_steps.proofs.ObjectLaws.{kind_of-same}
 
--- ---- what does not depend on stamps
+-- ---- what does not depend on timestamps
 
 pub seen : {A : Type 0} (f : Object → A) → ((o : Object) → f (object_state o) ≡ f o) → (a b : Option Object) → option_map object_state a ≡ option_map object_state b → option_map f a ≡ option_map f b
 seen {A} f kept a b e = sym (object_state_seen a) ∙ ap (option_map f) e ∙ object_state_seen b
@@ -208,7 +208,7 @@ unless_same [] None a b c d first second = second
 unless_same [] (Some name) a b c d first second = first
 unless_same (x ∷ xs) lacking a b c d first second = first
 
--- ---- where nothing but stamps and staging names has changed
+-- ---- where nothing but timestamps and staging names has changed
 
 module _ (t u : Files) (same : Same u t) where
   pub beside : (q : Path) → has_staging q ≡ false → same_path etc q ≡ false → object_states (places u) q ≡ object_states (places t) q

@@ -42,7 +42,7 @@ module _ (c : Edit) (is : IsEdit c) where
   pub stage_plain : (q : Path) → has_staging q ≡ false → is_prefix (staging_of c.path) q ≡ false
   stage_plain q plain = staging_outside (staging_of c.path) (has_staging-staging_of c.path is.root) q plain
 
-  -- ---- stamps aside, staging changes nothing that has no staging name
+  -- ---- timestamps aside, staging changes nothing that has no staging name
 
   pub object_states_staged : (now : ℕ) (t : Places) (q : Path) → has_staging q ≡ false → object_states (with_staged now t c) q ≡ object_states t q
   object_states_staged now t q plain =
@@ -157,7 +157,7 @@ module _ (now : ℕ) where
   object_states_all_staged [] are t q plain = refl
   object_states_all_staged (c ∷ cs) are t q plain = object_states_all_staged cs are.1.1 (with_staged now t c) q plain ∙ object_states_staged c are.0 now t q plain
 
-  -- stamps aside, the moment does not count
+  -- timestamps aside, the moment does not count
   pub object_states_edits : (later : ℕ) (cs : List Edit) (t u : Places) → ((q : Path) → has_staging q ≡ false → object_states t q ≡ object_states u q)
       → (q : Path) → has_staging q ≡ false → object_states (fold (with_edit now) t cs) q ≡ object_states (fold (with_edit later) u cs) q
   object_states_edits later [] t u same q plain = same q plain

@@ -24,18 +24,18 @@ use Rattle.pv_layers.specs.Places.{group_path, passwd_path}
 use Rattle.pv_sysusers.proofs.SameLaws.{seen, seen_or, uid_in}
 use Rattle.pv_steps.proofs.ObjectLaws.{kind_of-same}
 
--- ---- what edits leave at a path, stamps aside
+-- ---- what edits leave at a path, timestamps aside
 
--- the new file at a path, stamps aside
+-- the new file at a path, timestamps aside
 abbrev pub new_object_state : Places → Path → ℕ → List ℕ → Option Object
 new_object_state t path mode text = option_map object_state (Some (edited 0 (edit_to t path mode text)))
 
--- what stands at a path of which a text is told, where it is not that of the file
+-- the object at a path of which a text is told, if it is not that of the file
 abbrev pub own_new : Places → Path → ℕ → Option (List ℕ) → Option Object → Option Object
 own_new t path mode None o = o
 own_new t path mode (Some text) o = if same_bytes text (unwrap_or (text_at t path) []) then o else new_object_state t path mode text
 
--- what stands at another path, or at that one
+-- the object at another path, or at that one
 abbrev pub after : Places → Path → ℕ → Option (List ℕ) → Path → Option Object → Option Object
 after t path mode text q o = if same_path path q then own_new t path mode text o else o
 
@@ -148,7 +148,7 @@ pub record AreNew (t u : Places) (texts : Texts) : Type 0 where
   pub shadow : object_states u shadow_path ≡ own_new t shadow_path 0 (Some texts.shadow) (object_states t shadow_path)
   pub passwd : object_states u passwd_path ≡ own_new t passwd_path 420 (Some texts.passwd) (object_states t passwd_path)
 
--- what a run that came so far has left, stamps and staging names aside
+-- what a run that came so far has left, timestamps and staging names aside
 pub record HasCome (t u : Places) (texts : Texts) : Type 0 where
   pub group : IsAs t u group_path 420 (Some texts.group)
   pub gshadow : IsAs t u gshadow_path 0 texts.gshadow
@@ -272,7 +272,7 @@ module _ (t u base : Places) (texts : Texts) (start : (q : Path) → same_path e
       from_all (inl e) = from_three e (take_cases k (two t texts) (edit_at t shadow_path 0 texts.shadow) (short_edit t shadow_path 0 texts.shadow))
       from_all (inr e) = come_all e
 
--- ---- what stands at the paths of the account files
+-- ---- the object at the paths of the account files
 
 kind_new : (o : Object) → o.node.kind ≡ File → kind_of (Some o) ≡ Some File
 kind_new o e = ap (λ k. Some k) e

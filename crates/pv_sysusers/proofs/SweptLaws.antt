@@ -1,4 +1,4 @@
--- A whole run leaves nothing at the staging names of /etc and of the account files.
+-- A complete run leaves nothing at the staging names of /etc and of the account files.
 use Rattle.std.specs.Prelude.{◌≡◌, ℕ, Bool, true, false, cond, List, [], ◌∷◌, fold, Option, None, is_some, Result, OnOk}
 use Rattle.std.proofs.Common.{refl, sym, ap, subst, ◌∙◌}
 use Rattle.std.specs.List.{AllByRecursion}

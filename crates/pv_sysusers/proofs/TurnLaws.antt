@@ -1,4 +1,4 @@
--- Laws of staging account files in turn: what stands at their staging names at each moment.
+-- Laws of staging account files in turn: the object at their staging names at each moment.
 use Rattle.std.specs.Prelude.{◌≡◌, ◌⊎◌, ℕ, ◌+◌, ◌*◌, ◌≤◌, Bool, true, false, cond, not, ◌||◌, List, [], ◌∷◌, ◌++◌, length, take, drop, fold, Some, None, option_map, Result, Ok}
 use Rattle.std.proofs.Common.{zero, suc, refl, sym, ap, subst, ◌∙◌, arith, inl, inr}
 use Rattle.std.specs.List.{AllByRecursion}
@@ -247,7 +247,7 @@ module _ (t : Files) where
   comes_outside : (u : Files) → SameOutside (is_prefix (staging_of etc)) t u → NoneComes t u
   comes_outside u h = λ q below none. none_object_state (places t q) (places u q) (sym (h q (below_etc q below).1.1)) none
 
-  -- the directory comes to its path
+  -- the directory is renamed into place
   comes_published : (now : ℕ) (b u : Files) → places b ≡ made now (staging_of etc) (new_object parent_file now) (places t) → IsTree t → IsAbsentIn (places t) (staging_of etc)
       → NoneComes t b → Publishing now etc b u → NoneComes t u
   comes_published now b u is tree free before (inl c) = λ q below none. by q below none (c.pruned.within q (below_etc q below).0)

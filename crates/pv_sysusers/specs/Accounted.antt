@@ -1,4 +1,4 @@
--- What a run of systemd-sysusers leaves of a tree, stamps included, and what it says (systemd-sysusers(8),
+-- What a run of systemd-sysusers leaves of a tree, timestamps included, and what it says (systemd-sysusers(8),
 -- sysusers.d(5)).
 use Rattle.std.specs.Prelude.{◌≡◌, ◌⊎◌, ℕ, nat_lt, ◌/◌, Bool, false, List, [], ◌∷◌, ◌++◌, length, map, Option, Some, None, is_some, option_map, option_and_then, unwrap_or, Result, Ok, Err, if◌then◌else◌}
 use Rattle.std.specs.FinMap as fin
@@ -57,11 +57,11 @@ is_unusable t = nat_lt 0 (length (unusable_texts t))
 abbrev pub text_at : Places → Path → Option (List ℕ)
 text_at t path = option_map (λ o. o.payload) (t path)
 
--- the account files; each but /etc/gshadow counts as empty where it is absent
+-- the account files; each but /etc/gshadow counts as empty if it is absent
 abbrev pub files_at : Places → AccountFiles
 files_at t = files_in (unwrap_or (text_at t passwd_path) []) (unwrap_or (text_at t group_path) []) (unwrap_or (text_at t shadow_path) []) (text_at t gshadow_path)
 
--- the owners of what stands at a path, unless the path is refused
+-- the owners of the object at a path, unless the path is refused
 abbrev pub ids_at : Places → Path → Option PathId
 ids_at t path = if is_some (refusal t path 0) then None else option_map (λ o. record { uid = o.node.uid; gid = o.node.gid }) (t path)
 

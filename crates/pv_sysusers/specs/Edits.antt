@@ -21,7 +21,7 @@ use Rattle.pv_sysusers.specs.declared.edit.Edit.{Edit}
 abbrev pub etc : Path
 etc = codes "etc" ∷ []
 
--- the new file, all four stamps now
+-- the new file, all four timestamps now
 abbrev pub edited : ℕ → Edit → Object
 edited now edit = record {
   node = record {

@@ -34,9 +34,9 @@ account_paths = group_path ∷ gshadow_path ∷ shadow_path ∷ passwd_path ∷ 
 abbrev pub swept_names : List Path
 swept_names = map staging_of (etc ∷ account_paths)
 
--- ---- what it leaves, stamps included
+-- ---- what it leaves, timestamps included
 
--- where a text changes, /etc is put as a parent where it is absent
+-- where a text changes, /etc is put as a parent if it is absent
 abbrev pub with_directory : ℕ → List Edit → Places → Places
 with_directory now [] t = t
 with_directory now (edit ∷ edits) t = with_parent now t etc
@@ -45,7 +45,7 @@ with_directory now (edit ∷ edits) t = with_parent now t etc
 abbrev pub carried_out : ℕ → List Edit → Places → Places
 carried_out now edits t = fold (with_edit now) (with_directory now edits (all_taken now swept_names t)) edits
 
--- at most how many steps put /etc: it is made, gets its mode, and comes to its path
+-- at most how many steps put /etc: it is made, gets its mode, and is renamed into place
 abbrev pub most_directory : ℕ
 most_directory = 3
 
@@ -76,11 +76,11 @@ pub record IsSweptPath (path : Path) : Type 0 where
 
 -- ---- on the way
 
--- stamps aside, the new file stands whole at its staging name
+-- timestamps aside, the new file stands whole at its staging name
 abbrev pub IsStagedWhole : Places → Edit → Type 0
 IsStagedWhole u edit = object_states u (staging_of edit.path) ≡ Some (object_state (edited 0 edit))
 
--- stamps and staging names aside: nothing has changed, or some text changes, /etc stands, and the first edits are at their
+-- timestamps and staging names aside: nothing has changed, or some text changes, /etc stands, and the first edits are at their
 -- paths; once one is, all the others stand whole at their staging names
 abbrev pub AccountWay : List Edit → Files → Files → Type 0
 AccountWay edits t u =

@@ -11,7 +11,7 @@ files_with texts = record { passwd = texts.passwd; group = texts.group; shadow =
 abbrev pub IsEither : {A : Type 0} → A → A → A → Type 0
 IsEither old new file = (file ≡ old) ⊎ (file ≡ new)
 
--- some of the account files are new and the others as they were; /etc/passwd is new only where all are
+-- some of the account files are new and the others as they were; /etc/passwd is new only if all are
 pub record IsPartWritten (old : AccountFiles) (new : Texts) (files : AccountFiles) : Type 0 where
   pub group : IsEither old.group new.group files.group
   pub gshadow : IsEither old.gshadow new.gshadow files.gshadow

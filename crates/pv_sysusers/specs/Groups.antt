@@ -17,7 +17,7 @@ pub record Choice : Type 0 where
 abbrev pub in_use_message : Place → ℕ → List ℕ → List ℕ
 in_use_message place n name = message_text_at place (decimal n ++ codes " is in use for " ++ printed name)
 
--- the fixed number of a group, where no other group has it and no user of another name, or else one of the pool
+-- the fixed number of a group, if no other group has it and no user of another name, or else one of the pool
 abbrev pub group_choice : (ℕ → Bool) → Ids → Ids → List ℕ → Option (ℕ × Place) → Choice
 group_choice pooled users groups name None = record { number = free_number pooled users groups; new_messages = [] }
 group_choice pooled users groups name (Some fixed) =

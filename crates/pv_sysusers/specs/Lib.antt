@@ -16,6 +16,6 @@ pub mod Edits
 pub mod FileWriting
 pub mod Accounted
 pub mod Running
-pub mod Mended
+pub mod Recovery
 pub mod Swept
 pub mod Turns

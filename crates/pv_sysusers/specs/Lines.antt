@@ -10,7 +10,7 @@ use Rattle.pv_text.specs.GivenMessages.{message_text_at}
 use Rattle.pv_text.specs.declared.place.Place.{Place}
 use Rattle.pv_sysusers.specs.declared.path_ids.PathId.{PathId}
 
--- a request, with the owner and the owning group of the object at its path, where there is one
+-- a request, with the owner and the owning group of the object at its path, if there is one
 abbrev pub Line : Type 0
 Line = Request × Option PathId
 
@@ -60,7 +60,7 @@ with_counting lines line = if is_some (earlier lines line) then lines else lines
 abbrev pub duplicate_message : Place → List ℕ → List ℕ
 duplicate_message place name = message_text_at place (codes "duplicate line for " ++ printed name)
 
--- what is said of a u line of a user that has one already: nothing where they say the same
+-- what is said of a u line of a user that has one already: nothing if they say the same
 abbrev pub messages_again : List Line → Line → List (List ℕ)
 messages_again lines line = by (earlier lines line) (user_of line.0)
   where

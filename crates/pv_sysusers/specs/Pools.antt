@@ -33,7 +33,7 @@ highest test (suc n) = if test n then Some n else highest test n
 abbrev pub last_of : ℕ × ℕ → Option ℕ
 last_of range = if nat_le range.0 range.1 then Some range.1 else None
 
--- the greater of two numbers, where there are any
+-- the greater of two numbers, if there are any
 abbrev pub greater : Option ℕ → Option ℕ → Option ℕ
 greater None other = other
 greater (Some a) None = Some a

@@ -1,4 +1,4 @@
--- What a whole run of systemd-sysusers leaves at staging names (systemd-sysusers(8)).
+-- What a complete run of systemd-sysusers leaves at staging names (systemd-sysusers(8)).
 use Rattle.std.specs.Prelude.{◌≡◌, ℕ, List, [], None}
 use Rattle.std.specs.List.{AllByRecursion}
 use Rattle.pv_requests.specs.declared.request.Request.{Request}

@@ -32,7 +32,7 @@ AreInTurn (edit ∷ edits) u = (IsThere edit u × AreInTurn edits u) ⊎ (IsInSt
 abbrev pub InTurn : List Edit → Files → Type 0
 InTurn edits u = AreInTurn edits (places u)
 
--- on the way, stamps aside: of what stood, only what earlier runs have staged may be gone, or the new files are staged in turn
+-- on the way, timestamps aside: of what stood, only what earlier runs have staged may be gone, or the new files are staged in turn
 abbrev pub TurnWay : List Edit → Files → Files → Type 0
 TurnWay edits t u = Pruned (is_under_any swept_names) t u ⊎ InTurn edits u
 

@@ -47,7 +47,7 @@ pub(crate) fn write_account_files<T: Tree>(
     }
 }
 
-/// Puts the new texts of files at their paths, and their directory where it is absent.
+/// Puts the new texts of files at their paths, and their directory if it is absent.
 fn put_all<T: Tree>(alloc: Global, tree: &mut T, edits: &[Edit], now: u64) -> Result<(), TreeFault>
     requires some { 1 ≤ length edits.now }
     requires edits { AreEdits edits.now }
@@ -66,7 +66,7 @@ fn put_all<T: Tree>(alloc: Global, tree: &mut T, edits: &[Edit], now: u64) -> Re
     publish_all(alloc, tree, edits, now)
 }
 
-/// Puts the directory of the account files, where it is absent, as a parent is put.
+/// Puts the directory of the account files, if it is absent, as a parent is put.
 fn put_directory<T: Tree>(alloc: Global, tree: &mut T, now: u64) -> Result<(), TreeFault>
     requires pass { IsPresent (T.state tree.old) etc → IsKind Directory (T.state tree.old) etc }
     requires free { IsAbsentIn (places (T.state tree.old)) (staging_of etc) }

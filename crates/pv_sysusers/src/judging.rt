@@ -39,7 +39,7 @@ fn judge_file<T: Tree>(
     judge(alloc, tree, &path, new_messages)
 }
 
-/// Says of a path why what stands there cannot be used, where it cannot.
+/// Says of a path why the object there cannot be used, if it cannot.
 fn judge<T: Tree>(
     alloc: Global,
     tree: &T,

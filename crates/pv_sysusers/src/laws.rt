@@ -31,10 +31,10 @@ pub fn users_that_are_there_stay()
         decided_users again later (users ++ ids_made (decided_users pooled groups users accounts).made) accounts ≡ no_users }
 {}
 
-/// Where an earlier run was stopped among the account files, so that some of them are new and the others as they were, and
-/// /etc/passwd is new only where all are, a plan of the same lines made again gives the texts that were planned. That of
-/// /etc/shadow, which tells the day, is the same on the same day, and where it is written. The lines have only names, IDs
-/// and texts that are allowed.
+/// A plan recovers. Suppose that an earlier run was stopped among the account files. Some of them are new and the
+/// others as they were, and /etc/passwd is new only if all are. Then a plan of the same lines gives the texts that were
+/// planned. That of /etc/shadow, which holds the day, is the same on the same day, and if it is already written. The
+/// lines have only names, IDs and texts that are allowed.
 pub fn a_plan_among_new_files_gives_the_same_texts()
     ensures { (requests : List RequestValue) (taken : List (Option PathIdValue)) (files again : AccountFiles) (day later : ℕ) (texts : TextsValue) →
         AllByRecursion IsAllowed requests → AllByRecursion AreOwners taken → day < 2 ^ 64 →

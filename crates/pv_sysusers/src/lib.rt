@@ -39,7 +39,7 @@ pub use plan_fault::PlanFault;
 pub use planned::{Texts, duplicates, plan};
 pub use pv_steps::Carried;
 pub use run_laws::{
-    a_run_stopped_after_putting_etc_is_mended, stamps_and_staging_names_do_not_count,
+    a_run_stopped_after_putting_etc_recovers, stamps_and_staging_names_do_not_count,
     what_is_said_does_not_depend_on_stamps,
 };
 pub use running::accounts_run;

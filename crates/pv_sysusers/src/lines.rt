@@ -11,7 +11,7 @@ use pv_text::{Messages, Place};
 use std::alloc::{AllocError, Global};
 use std::collections::HashMap;
 
-/// A request, with the owner and the owning group of the object at its path, where there is one.
+/// A request, with the owner and the owning group of the object at its path, if there is one.
 pub(crate) type Line<'a> = (&'a Request, Option<PathId>);
 
 /// The lines that count, with the first u line of each user.
@@ -45,7 +45,7 @@ fn place_of(request: &Request) -> &Place
     }
 }
 
-/// The owners at a place of a list, where they are told.
+/// The owners at an index of a list, if they are known.
 fn owners_at(taken: &PathIds, i: usize) -> Option<PathId>
     ensures { result ≡ owners_at taken.now i }
 {

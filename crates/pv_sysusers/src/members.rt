@@ -75,7 +75,7 @@ impl<'a> MemberLines<'a> {
         }
     }
 
-    /// Notes the place of a line, where it is the first entry of its name.
+    /// Notes the place of a line, if it is the first entry of its name.
     fn note_line(&mut self, kind: Kind, line: &'a [u8], at: usize) -> Result<(), AllocError>
         requires members { has_members kind ≡ true }
         requires whole { lacks_end line.now ≡ true }

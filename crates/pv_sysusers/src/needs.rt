@@ -47,11 +47,11 @@ pub struct Account {
     pub main: Main,
     /// Whether nobody may log in by the account at all.
     pub locked: bool,
-    /// The full name or another comment, where one is given.
+    /// The full name or another comment, if one is given.
     pub gecos: Option<Bytes>,
-    /// The home directory, where one is given.
+    /// The home directory, if one is given.
     pub home: Option<Bytes>,
-    /// The login shell, where one is given.
+    /// The login shell, if one is given.
     pub shell: Option<Bytes>,
     /// Where the line stands.
     pub place: Place,

@@ -60,7 +60,7 @@ fn number_path(request: &Request) -> Option<&TreePath>
     }
 }
 
-/// The owners of what stands at a path, unless the path is refused.
+/// The owners of the object at a path, unless the path is refused.
 fn ids_at<T: Tree>(alloc: Global, tree: &T, path: &TreePath) -> Result<Option<PathId>, AllocError>
     requires { length path.now < 2 ^ 32 }
     ensures { IfOk result (λ ids. ids ≡ ids_at (places (T.state tree.now)) path.now) }
@@ -71,7 +71,7 @@ fn ids_at<T: Tree>(alloc: Global, tree: &T, path: &TreePath) -> Result<Option<Pa
     }
 }
 
-/// The owners of what stands at a path.
+/// The owners of the object at a path.
 fn owners_at<T: Tree>(tree: &T, path: &TreePath) -> Option<PathId>
     ensures { result ≡ option_map (λ o. record { uid = o.node.uid; gid = o.node.gid }) (places (T.state tree.now) path.now) }
 {

@@ -10,6 +10,6 @@ pub struct PathId {
     pub gid: u32,
 }
 
-/// For each request in order the owners of the object at its path, or nothing where it has no path, the path is absent
-/// or its walk is refused.
+/// For each request in order: the owners of the object at its path. It is nothing if the request has no path, the path
+/// is absent or its walk is refused.
 pub type PathIds = Sequence<Option<PathId>>;

@@ -163,10 +163,10 @@ pub fn duplicates(alloc: Global, requests: &RequestList) -> Result<Messages, All
     Ok(new_messages)
 }
 
-/// What a run makes of the account files, by its requests, the owners of the objects at their paths and the day: the
-/// new texts, or the name of the first user or group for which no number is left (sysusers.d(5)). /etc/gshadow may be
-/// absent. What is said of lines that come again comes first, then what is said of numbers in use. Where memory runs out
-/// nothing or a front part of it is said.
+/// Plans the new texts of the account files (sysusers.d(5)), by the requests, the owners of the objects at their paths
+/// and the day. The answer is the new texts, or the name of the first user or group for which no number is left.
+/// /etc/gshadow may be absent. Messages on repeated lines come first, then messages on numbers in use. If memory runs
+/// out, nothing or a prefix of them is said.
 pub fn plan(
     alloc: Global,
     requests: &RequestList,

@@ -24,7 +24,7 @@ use pv_text::Messages;
 use std::alloc::Global;
 
 /// Plans a run: the edits that it makes of the account files, which can all be used, or the name for which no number is
-/// left. Where memory runs out nothing or a front part of what is to be said is said.
+/// left. If memory runs out, nothing or a prefix of what is to be said is said.
 pub(crate) fn planned_edits<T: Tree>(
     alloc: Global,
     tree: &T,

@@ -15,7 +15,7 @@ use pv_requests::Request;
 use std::alloc::{AllocError, Global};
 use std::collections::HashSet;
 
-/// The numbers that may be given: those in ranges, but for 0, 65535 and those that lines fix.
+/// The numbers that may be given: those in ranges, without 0, 65535 and those that lines fix.
 #[derive(Drop)]
 pub struct Pool {
     /// The ranges, each by its first and its last number.
@@ -55,7 +55,7 @@ fn ranges_or_own(mut ranges: Vec<(u32, u32)>) -> Result<Vec<(u32, u32)>, AllocEr
     Ok(ranges)
 }
 
-/// Adds a number, where there is one.
+/// Adds a number, if there is one.
 fn add_number(numbers: &mut Vec<u32>, number: Option<u32>) -> Result<(), AllocError>
     ensures { OnOk result (numbers.new.items ≡ numbers.old.items ++ option_to_list number) }
 {
@@ -139,7 +139,7 @@ fn top_of(range: (u32, u32), bound: u32) -> Option<u32>
     }
 }
 
-/// The greater of two numbers, where there are any.
+/// The greater of two numbers, if there are any.
 fn greater(a: Option<u32>, b: Option<u32>) -> Option<u32>
     ensures { result ≡ greater a b }
 {

@@ -1,4 +1,4 @@
-//! What is staged comes to its path, file by file.
+//! Staged files are renamed into place, file by file.
 ghost use Rattle.std.specs.Prelude.{◌≡◌, ◌⊎◌, fold, length, OnOk};
 ghost use Rattle.std.specs.List.{AllByRecursion};
 ghost use Rattle.pv_steps.specs.declared.node.Kind.TheVariants.{Directory};

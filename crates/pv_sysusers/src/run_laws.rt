@@ -9,16 +9,16 @@ ghost use Rattle.pv_walk.specs.Preparing.{with_parent};
 ghost use Rattle.pv_sysusers.specs.Edits.{etc};
 ghost use Rattle.pv_sysusers.specs.Accounted.{HasPlainPath, accounted, accounts_messages, day_of, edits_at};
 
-/// From a tree that differs in timestamps and staging names alone, as one does where a run was stopped before it
-/// brought a file to its path, a whole run on the same day leaves the same.
+/// Timestamps and staging names do not count: two trees that differ in them alone lead a complete run on the same day
+/// to the same. Such a tree is left if a run was stopped before it renamed a file into place.
 pub fn stamps_and_staging_names_do_not_count()
     ensures { (requests : List RequestValue) (now later : ℕ) (t u : Files) → AllByRecursion HasPlainPath requests →
         day_of later ≡ day_of now → Same u t → Same (accounted requests later u) (accounted requests now t) }
 {}
 
-/// Where a run was stopped after it had put `/etc` and before it brought a file to its path, a whole run on the same day
-/// leaves what the run would have left.
-pub fn a_run_stopped_after_putting_etc_is_mended()
+/// Suppose that a run was stopped after it had made `/etc` and before it renamed a file into place. A complete run on
+/// the same day leaves what the stopped run would have left.
+pub fn a_run_stopped_after_putting_etc_recovers()
     ensures { (requests : List RequestValue) (now later : ℕ) (t u : Files) → AllByRecursion HasPlainPath requests →
         day_of later ≡ day_of now → 1 ≤ length (edits_at requests now (places t)) →
         ((q : Path) → has_staging q ≡ false → object_states (places u) q ≡ object_states (with_parent 0 (places t) etc) q) →

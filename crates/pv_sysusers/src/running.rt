@@ -1,10 +1,10 @@
 //! A run of systemd-sysusers over a tree.
-ghost use Rattle.std.specs.Prelude.{◌≡◌, ◌≢◌, ◌++◌, ◌+◌, [], drop, length, None, IfOk, IfErr, IsErrOf, OnOk};
+ghost use Rattle.std.specs.Prelude.{◌≡◌, ◌≢◌, ◌++◌, ◌+◌, [], None, IfOk, IfErr, IsErrOf, OnOk};
 ghost use Rattle.std.specs.List.{AllByRecursion};
 ghost use Rattle.pv_steps.specs.Trees.{places, IsTree};
 ghost use Rattle.pv_requests.specs.Paths.{HasFewNames};
 ghost use Rattle.pv_sysusers.specs.Lines.{lines_from, duplicate_messages};
-ghost use Rattle.pv_steps.specs.Acting.{Acted};
+ghost use Rattle.pv_steps.specs.Acting.{Acted, steps_done};
 ghost use Rattle.pv_text.specs.GivenMessages.{MessagesPart};
 ghost use Rattle.pv_steps.specs.Courses.{carried_of};
 ghost use Rattle.pv_steps.specs.declared.carried.Carried.TheVariants.{Whole};
@@ -12,7 +12,7 @@ ghost use Rattle.pv_walk.specs.Staging.{count_at_all};
 ghost use Rattle.pv_sysusers.specs.declared.accounts_fault.AccountsFault.TheVariants.{Failed};
 ghost use Rattle.pv_sysusers.specs.Accounted.{accounted, accounts_messages, carried_files, edits_at, edits_by, is_unusable, lacking_at, lacking_in, plan_at, unusable_texts};
 ghost use Rattle.pv_sysusers.specs.FileWriting.{AccountWay, IsAccountStep, most_put, swept_names};
-ghost use Rattle.pv_sysusers.specs.Mended.{IsMended};
+ghost use Rattle.pv_sysusers.specs.Recovery.{Recovers};
 ghost use Rattle.pv_sysusers.specs.Running.{IfLacking, Lacks, in_steps, run_answer};
 ghost use Rattle.pv_sysusers.specs.Swept.{LeavesNoStagingName};
 ghost use Rattle.pv_sysusers.specs.Turns.{TurnWay};
@@ -28,10 +28,11 @@ use pv_steps::{Carried, Tree, TreeFault};
 use pv_text::{Messages, say_all};
 use std::alloc::{AllocError, Global};
 
-/// Makes the users and groups that lines ask for (systemd-sysusers(8), sysusers.d(5)): reads the account files, plans
-/// their new texts, takes away what earlier runs have staged for them, stages each text that changes with what its
-/// file has, and brings them to their paths in the order group, gshadow, shadow, passwd. Where an account file cannot be
-/// used nothing is done, and the answer is `NotCarriedOut`; where no number is left for a name nothing is done either.
+/// Makes the users and groups that lines ask for (systemd-sysusers(8), sysusers.d(5)). It reads the account files and
+/// plans their new texts. It removes what earlier runs have staged for them, and stages each text that changes with the
+/// metadata of its file. It renames them into place in the order group, gshadow, shadow, passwd. If an account file
+/// cannot be used, nothing is done, and the answer is `NotCarriedOut`. If no number is left for a name, nothing is done
+/// either.
 pub fn accounts_run<T: Tree>(
     alloc: Global,
     tree: &mut T,
@@ -41,7 +42,7 @@ pub fn accounts_run<T: Tree>(
 ) -> Result<Carried, AccountsFault>
     requires requests { AllByRecursion HasFewNames requests.now }
 
-    // What a whole run leaves, stamps included, what it says and how it ends.
+    // What a complete run leaves, timestamps included, what it says and how it ends.
     ensures ok { OnOk result (T.state tree.new ≡ accounted requests.now now (T.state tree.old)) }
     ensures new_messages { OnOk result (messages.new ≡ messages.old ++ accounts_messages requests.now now (places (T.state tree.old))) }
     ensures carried { IfOk result (λ c. c ≡ carried_of (is_unusable (places (T.state tree.old)))) }
@@ -71,8 +72,8 @@ pub fn accounts_run<T: Tree>(
         Acted T.Tree (TurnWay edits (T.state tree.old)) (IsAccountStep edits (T.state tree.old))
         (count_at_all (T.state tree.old) swept_names + most_put edits (places (T.state tree.old))) now tree.old tree.new (in_steps result) }
 
-    // The stop law.
-    ensures mended { IsMended requests.now now (T.state tree.old) (drop (length (T.steps tree.old)) (T.steps tree.new)) }
+    // Crash safety.
+    ensures recovers { Recovers requests.now now (T.state tree.old) (steps_done T.Tree tree.old tree.new) }
 {
     let unusable = unusable_texts(alloc, tree)?;
     if unusable.len() > 0 {
@@ -136,8 +137,8 @@ fn run_answer(answer: Result<(), TreeFault>) -> Result<Carried, AccountsFault>
     }
 }
 
-/// Says what is said of lines that come again, and then of account files that cannot be used. Where memory runs out
-/// nothing or a front part of it is said.
+/// Says which lines are repeated, and then which account files cannot be used. If memory runs out, nothing or a prefix
+/// of it is said.
 fn say_unusable(
     alloc: Global,
     requests: &RequestList,

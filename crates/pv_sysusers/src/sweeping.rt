@@ -16,7 +16,7 @@ use pv_steps::{Tree, TreeFault};
 use pv_walk::sweep;
 use std::alloc::Global;
 
-/// Takes away what stands at the staging names of /etc and of the account files, with all below.
+/// Removes the objects at the staging names of /etc and of the account files, with all below them.
 pub(crate) fn sweep_all<T: Tree>(alloc: Global, tree: &mut T, now: u64) -> Result<(), TreeFault>
     ensures ok { OnOk result (places (T.state tree.new) ≡ all_taken now swept_names (places (T.state tree.old))) }
     ensures free { OnOk result (AllByRecursion (λ p. IsAbsentIn (places (T.state tree.new)) (staging_of p)) (etc ∷ account_paths)) }
@@ -29,7 +29,7 @@ pub(crate) fn sweep_all<T: Tree>(alloc: Global, tree: &mut T, now: u64) -> Resul
     sweep_files(alloc, tree, &paths, now)
 }
 
-/// Takes away what stands at the staging names of these files; nothing stands at that of /etc.
+/// Removes the objects at the staging names of these files. The staging name of /etc is absent.
 fn sweep_files<T: Tree>(
     alloc: Global,
     tree: &mut T,
@@ -52,7 +52,7 @@ fn sweep_files<T: Tree>(
     }
 }
 
-/// Takes away what stands at the staging name of one file; nothing stands at that of /etc.
+/// Removes the object at the staging name of one file. The staging name of /etc is absent.
 fn sweep_file<T: Tree>(
     alloc: Global,
     tree: &mut T,

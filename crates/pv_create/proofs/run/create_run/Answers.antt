@@ -6,7 +6,7 @@ use Rattle.pv_table.specs.Active.{in_create_order}
 use Rattle.pv_create.specs.Ways.{lines_course}
 use Rattle.pv_create.proofs.RunLaws.{counting_says, counting_takes, none_staged}
 use Rattle.pv_create.proofs.StepLaws.{given}
-use Rattle.pv_create.proofs.StoppedLaws.{mended, mended_again, stopped, between, framed}
+use Rattle.pv_create.proofs.StoppedLaws.{recovers, recovered_again, stopped, between, framed}
 use Rattle.pv_create.proofs.run.create_run.Goals as goal
 
 pub returns-clause-acted : goal.returns-clause-acted
@@ -45,12 +45,12 @@ returns-clause-went g c = c.run_in_order.ensures.went
 
 -- ---- the laws
 
-pub returns-clause-mended : goal.returns-clause-mended
-returns-clause-mended g c =
+pub returns-clause-recovers : goal.returns-clause-recovers
+returns-clause-recovers g c =
     let table = c.args.table.now in
     let now = c.args.now in
     let t = g.T.Tree.state c.args.tree.now in
-    mended table c.lines-lines.ensures.whole (IsStepOfSome (lines_course now) (in_create_order table) t) now t (g.T.Tree.steps c.args.tree.now)
+    recovers table c.lines-lines.ensures.whole (IsStepOfSome (lines_course now) (in_create_order table) t) now t (g.T.Tree.steps c.args.tree.now)
     (g.T.Tree.state c.run_in_order.new.tree) (g.T.Tree.steps c.run_in_order.new.tree) c.ranges.now.fits (g.met.T.Tree.is_tree c.args.tree.now) c.run_in_order.ensures.acted.ran c.lines-lines.ensures.distinct
 
 pub returns-clause-again : goal.returns-clause-again
@@ -58,7 +58,7 @@ returns-clause-again g c =
     let table = c.args.table.now in
     let now = c.args.now in
     let t = g.T.Tree.state c.args.tree.now in
-    mended_again table c.lines-lines.ensures.whole (IsStepOfSome (lines_course now) (in_create_order table) t) now t (g.T.Tree.steps c.args.tree.now)
+    recovered_again table c.lines-lines.ensures.whole (IsStepOfSome (lines_course now) (in_create_order table) t) now t (g.T.Tree.steps c.args.tree.now)
     (g.T.Tree.state c.run_in_order.new.tree) (g.T.Tree.steps c.run_in_order.new.tree) c.ranges.now.fits (g.met.T.Tree.is_tree c.args.tree.now) c.run_in_order.ensures.acted.ran c.lines-lines.ensures.distinct
 
 pub returns-clause-stopped : goal.returns-clause-stopped

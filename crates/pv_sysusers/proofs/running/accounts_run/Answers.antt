@@ -12,7 +12,7 @@ use Rattle.pv_sysusers.specs.Accounted.{edits_by, edits_unless, lacking_in, lack
 use Rattle.pv_sysusers.specs.FileWriting.{AccountWay, IsAccountStep, most_put, swept_names}
 use Rattle.pv_sysusers.specs.Turns.{TurnWay}
 use Rattle.pv_sysusers.specs.Running.{IfLacking, Lacks, in_steps}
-use Rattle.pv_sysusers.proofs.MendedLaws.{none_mended, run_mended}
+use Rattle.pv_sysusers.proofs.RecoveryLaws.{none_recovered, run_recovered}
 use Rattle.pv_sysusers.proofs.RunningLaws.{nil_of, ok_accounted, some_accounted, some_lacking, some_messages}
 use Rattle.pv_sysusers.proofs.SweptLaws.{accounts_leave_none}
 use Rattle.pv_sysusers.proofs.running.accounts_run.Goals as goal
@@ -83,24 +83,24 @@ returns-clause-lacking g c =
     let none : unusable_texts (places t) ≡ [] = nil_of (unusable_texts (places t)) (subst (λ ys. length ys ≤ 0) c.in_ok-unusable.ensures (omega (arith, c.len.ensures, c.if-len-gt0.false))) in
     subst (λ (ys : List (List ℕ)). IfErr c.run_usable.result (Lacks (lacking_unless ys (lacking_in (plan_at c.args.requests.now c.args.now (places t)).texts)))) (sym none) c.run_usable.ensures.lacking
 
-pub returns-in_err-unusable-clause-mended : goal.returns-in_err-unusable-clause-mended
-returns-in_err-unusable-clause-mended g c =
-    none_mended c.args.requests.now c.args.now c.ranges.now.fits (g.T.Tree.state c.args.tree.now) (g.T.Tree.steps c.args.tree.now) (g.met.T.Tree.is_tree c.args.tree.now)
+pub returns-in_err-unusable-clause-recovers : goal.returns-in_err-unusable-clause-recovers
+returns-in_err-unusable-clause-recovers g c =
+    none_recovered c.args.requests.now c.args.now c.ranges.now.fits (g.T.Tree.state c.args.tree.now) (g.T.Tree.steps c.args.tree.now) (g.met.T.Tree.is_tree c.args.tree.now)
 
-pub returns-in_err-say_unusable-clause-mended : goal.returns-in_err-say_unusable-clause-mended
-returns-in_err-say_unusable-clause-mended g c =
-    none_mended c.args.requests.now c.args.now c.ranges.now.fits (g.T.Tree.state c.args.tree.now) (g.T.Tree.steps c.args.tree.now) (g.met.T.Tree.is_tree c.args.tree.now)
+pub returns-in_err-say_unusable-clause-recovers : goal.returns-in_err-say_unusable-clause-recovers
+returns-in_err-say_unusable-clause-recovers g c =
+    none_recovered c.args.requests.now c.args.now c.ranges.now.fits (g.T.Tree.state c.args.tree.now) (g.T.Tree.steps c.args.tree.now) (g.met.T.Tree.is_tree c.args.tree.now)
 
-pub returns-then-len-gt0-clause-mended : goal.returns-then-len-gt0-clause-mended
-returns-then-len-gt0-clause-mended g c =
-    none_mended c.args.requests.now c.args.now c.ranges.now.fits (g.T.Tree.state c.args.tree.now) (g.T.Tree.steps c.args.tree.now) (g.met.T.Tree.is_tree c.args.tree.now)
+pub returns-then-len-gt0-clause-recovers : goal.returns-then-len-gt0-clause-recovers
+returns-then-len-gt0-clause-recovers g c =
+    none_recovered c.args.requests.now c.args.now c.ranges.now.fits (g.T.Tree.state c.args.tree.now) (g.T.Tree.steps c.args.tree.now) (g.met.T.Tree.is_tree c.args.tree.now)
 
-pub returns-clause-mended : goal.returns-clause-mended
-returns-clause-mended g c =
+pub returns-clause-recovers : goal.returns-clause-recovers
+returns-clause-recovers g c =
     let t = g.T.Tree.state c.args.tree.now in
     let plan = plan_at c.args.requests.now c.args.now (places t) in
     let none : unusable_texts (places t) ≡ [] = nil_of (unusable_texts (places t)) (subst (λ ys. length ys ≤ 0) c.in_ok-unusable.ensures (omega (arith, c.len.ensures, c.if-len-gt0.false))) in
-    run_mended c.args.requests.now c.args.now c.ranges.now.fits (edits_by (places t) plan.texts) (IsAccountStep (edits_by (places t) plan.texts) t) t (g.T.Tree.steps c.args.tree.now)
+    run_recovered c.args.requests.now c.args.now c.ranges.now.fits (edits_by (places t) plan.texts) (IsAccountStep (edits_by (places t) plan.texts) t) t (g.T.Tree.steps c.args.tree.now)
     (g.T.Tree.state c.run_usable.new.tree) (g.T.Tree.steps c.run_usable.new.tree) (g.met.T.Tree.is_tree c.args.tree.now) (sym (ap (λ xs. edits_unless xs (edits_by (places t) plan.texts)) none)) c.run_usable.ensures.acted.ran
 
 pub returns-clause-new_messages : goal.returns-clause-new_messages

@@ -1,4 +1,4 @@
--- The stop law of the create phase (tmpfiles.d(5)).
+-- Crash safety of the create phase (tmpfiles.d(5)).
 use Rattle.std.specs.Prelude.{ℕ, List, [], ◌∷◌, ◌++◌, take}
 use Rattle.pv_lines.specs.declared.line.Line.{Line}
 use Rattle.pv_steps.specs.declared.step.Step.{Step}
@@ -9,19 +9,19 @@ use Rattle.pv_laws.specs.Copying.{StoppedRuns}
 use Rattle.pv_table.specs.Created.{created, IsQuiet}
 use Rattle.pv_table.specs.Repeatable.{IsRepeatable}
 
--- a run of lines from a tree, stopped after any of its steps: where no line has a reason against it, and neither a whole run
--- from the start nor one from there refuses a line at a turn, a whole run from there, at any moment, leaves the tree of one
--- whole run, stamps and staging names aside
-abbrev pub IsMended : List Line → ℕ → Files → List Step → Type 0
-IsMended lines now t steps = (n later : ℕ) → IsRepeatable lines →
+-- a run of lines from a tree, stopped after any of its steps: if no line has a hazard against it, and neither a complete run
+-- from the start nor one from there refuses a line at a turn, a complete run from there, at any moment, leaves the tree of one
+-- whole run, timestamps and staging names aside
+abbrev pub Recovers : List Line → ℕ → Files → List Step → Type 0
+Recovers lines now t steps = (n later : ℕ) → IsRepeatable lines →
     IsQuiet lines now t →
     IsQuiet lines later (after_all t (take n steps) now) →
     Same (created lines later (after_all t (take n steps) now)) (created lines now t)
 
--- the same where runs of the lines that were cut short, at some moments, had led to the tree: then a whole run leaves the
--- tree of one whole run from the first of these trees
-abbrev pub IsMendedAgain : List Line → ℕ → Files → List Step → Type 0
-IsMendedAgain lines now t steps = (s : Files) (moments : List ℕ) (n first later : ℕ) → IsTree s → IsRepeatable lines →
+-- the same where runs of the lines that were cut short, at some moments, had led to the tree: then a complete run leaves the
+-- tree of one complete run from the first of these trees
+abbrev pub RecoversAgain : List Line → ℕ → Files → List Step → Type 0
+RecoversAgain lines now t steps = (s : Files) (moments : List ℕ) (n first later : ℕ) → IsTree s → IsRepeatable lines →
     StoppedRuns lines moments s t →
     IsQuiet lines now t →
     IsQuiet lines later (after_all t (take n steps) now) →

@@ -1,4 +1,4 @@
--- A copy that has come to its path, and of which later lines have set some, is mended when it is carried out again.
+-- A copy that has come to its path, and of which later lines have set some, recovers when it is carried out again.
 use Rattle.std.specs.Prelude.{◌≡◌, ℕ, Bool, true, false, cond, ◌&&◌, List, [], ◌∷◌, ◌++◌, take, Option, Some, None, if◌then◌else◌, ◌⊎◌}
 use Rattle.std.proofs.Common.{refl, sym, ap, subst, ◌∙◌, inl, inr}
 use Rattle.std.specs.List.{list_all}
@@ -45,19 +45,19 @@ module _ (copying : Copying) (kind : Kind) (path : Path) (v w : View) (top : Obj
   abbrev left : Path → Option ObjectState
   left r = after_turn (copying_turn copying v path kind (a [])) r (a r)
 
-  -- what stands there now
+  -- the object there now
   abbrev now : Path → Option ObjectState
   now r = run (take (j r) (ys r)) (left r)
 
-  abbrev IsMendedAt : Turn → Turn → Type 0
-  IsMendedAt first second =
+  abbrev RecoversAt : Turn → Turn → Type 0
+  RecoversAt first second =
       run (ys rest) (after_turn second rest (run (take (j rest) (ys rest)) (after_turn first rest (a rest)))) ≡ run (ys rest) (after_turn first rest (a rest))
 
   absorbed_there : (b : Option ObjectState) → run (ys rest) (run (take (j rest) (ys rest)) b) ≡ run (ys rest) b
   absorbed_there b = absorbed (ys rest) (j rest) b repeatable
 
   -- the copy was put: it is put again, or set
-  put_put : IsMendedAt (Turn.Put (copy_of copying v)) (Turn.Put (copy_of copying w))
+  put_put : RecoversAt (Turn.Put (copy_of copying v)) (Turn.Put (copy_of copying w))
   put_put = ap (run (ys rest)) (sym same)
 
   put_set : (r : Path) → r ≡ rest → run (ys r) (after_turn (Turn.Become copying.sets) r (run (take (j r) (ys r)) (copy_of copying v r))) ≡ run (ys r) (copy_of copying v r)
@@ -82,50 +82,50 @@ module _ (copying : Copying) (kind : Kind) (path : Path) (v w : View) (top : Obj
   still : (x : ObjectState) → (y : ObjectState) × (run (take (j []) (ys [])) (Some x) ≡ Some y) × IsLike x y
   still x = adjusted_like (take (j []) (ys [])) (all_take is_adjustment (j []) (ys []) (adjust [])) x
 
-  after_put : IsMendedAt (Turn.Put (copy_of copying v)) (copying_turn copying w path kind (run (take (j []) (ys [])) (copy_of copying v [])))
-  after_put = subst (λ b. IsMendedAt (Turn.Put (copy_of copying v)) (copying_turn copying w path kind b)) (sym (ap (run (take (j []) (ys []))) is_top ∙ (still top).1))
+  after_put : RecoversAt (Turn.Put (copy_of copying v)) (copying_turn copying w path kind (run (take (j []) (ys [])) (copy_of copying v [])))
+  after_put = subst (λ b. RecoversAt (Turn.Put (copy_of copying v)) (copying_turn copying w path kind b)) (sym (ap (run (take (j []) (ys []))) is_top ∙ (still top).1))
       (by (is_directory kind && is_childless w path) refl)
     where
       of_same : same_kind kind (still top).0.body.kind ≡ true
       of_same = ap (same_kind kind) (still top).2.kind ∙ of_kind
 
-      by : (empty : Bool) → (is_directory kind && is_childless w path) ≡ empty → IsMendedAt (Turn.Put (copy_of copying v)) (copying_turn copying w path kind (Some (still top).0))
-      by true e = subst (IsMendedAt (Turn.Put (copy_of copying v))) (sym (second_same (still top).0 of_same true e)) put_put
-      by false e = subst (IsMendedAt (Turn.Put (copy_of copying v))) (sym (second_same (still top).0 of_same false e)) (put_set rest refl)
+      by : (empty : Bool) → (is_directory kind && is_childless w path) ≡ empty → RecoversAt (Turn.Put (copy_of copying v)) (copying_turn copying w path kind (Some (still top).0))
+      by true e = subst (RecoversAt (Turn.Put (copy_of copying v))) (sym (second_same (still top).0 of_same true e)) put_put
+      by false e = subst (RecoversAt (Turn.Put (copy_of copying v))) (sym (second_same (still top).0 of_same false e)) (put_set rest refl)
 
-  pub copy_mends : run (ys rest) (after_turn (copying_turn copying w path kind (now [])) rest (now rest)) ≡ run (ys rest) (left rest)
-  copy_mends = start (a []) refl
+  pub copy_recovers : run (ys rest) (after_turn (copying_turn copying w path kind (now [])) rest (now rest)) ≡ run (ys rest) (left rest)
+  copy_recovers = start (a []) refl
     where
       kept : (x : ObjectState) → a [] ≡ Some x → (s : Bool) → same_kind kind x.body.kind ≡ s → (empty : Bool) → (is_directory kind && is_childless v path) ≡ empty → (renews : Bool) → copying.renews ≡ renews
-          → IsMendedAt (if s then (if empty then Turn.Put (copy_of copying v) else Turn.Become copying.sets) else if renews then Turn.Put (copy_of copying v) else Turn.Left x.body.kind)
+          → RecoversAt (if s then (if empty then Turn.Put (copy_of copying v) else Turn.Become copying.sets) else if renews then Turn.Put (copy_of copying v) else Turn.Left x.body.kind)
           (copying_turn copying w path kind (run (take (j []) (ys [])) (after_turn (if s then (if empty then Turn.Put (copy_of copying v) else Turn.Become copying.sets) else if renews then Turn.Put (copy_of copying v) else Turn.Left x.body.kind) [] (a []))))
       kept x e true s true f renews g = after_put
       kept x e true s false f renews g =
           let first = adjusted_like copying.sets set_adjust x in
           let next = still first.0 in
           let is_next : run (take (j []) (ys [])) (run copying.sets (a [])) ≡ Some next.0 = ap (λ b. run (take (j []) (ys [])) (run copying.sets b)) e ∙ ap (run (take (j []) (ys []))) first.1 ∙ next.1 in
-          subst (λ b. IsMendedAt (Turn.Become copying.sets) (copying_turn copying w path kind b)) (sym is_next)
-          (subst (IsMendedAt (Turn.Become copying.sets)) (sym (second_same next.0 (ap (same_kind kind) (next.2.kind ∙ first.2.kind) ∙ s) false (full x e s f))) (set_set rest refl))
+          subst (λ b. RecoversAt (Turn.Become copying.sets) (copying_turn copying w path kind b)) (sym is_next)
+          (subst (RecoversAt (Turn.Become copying.sets)) (sym (second_same next.0 (ap (same_kind kind) (next.2.kind ∙ first.2.kind) ∙ s) false (full x e s f))) (set_set rest refl))
       kept x e false s empty f true g = after_put
       kept x e false s empty f false g =
           let next = still x in
           let is_next : run (take (j []) (ys [])) (a []) ≡ Some next.0 = ap (run (take (j []) (ys []))) e ∙ next.1 in
-          subst (λ b. IsMendedAt (Turn.Left x.body.kind) (copying_turn copying w path kind b)) (sym is_next)
-          (subst (IsMendedAt (Turn.Left x.body.kind)) (sym (
+          subst (λ b. RecoversAt (Turn.Left x.body.kind) (copying_turn copying w path kind b)) (sym is_next)
+          (subst (RecoversAt (Turn.Left x.body.kind)) (sym (
           ap (λ c. if c then (if is_directory kind && is_childless w path then Turn.Put (copy_of copying w) else Turn.Become copying.sets) else if copying.renews then Turn.Put (copy_of copying w) else Turn.Left next.0.body.kind) (ap (same_kind kind) next.2.kind ∙ s)
           ∙ ap (λ c. if c then Turn.Put (copy_of copying w) else Turn.Left next.0.body.kind) g))
           (absorbed_there (a rest)))
 
       start : (b : Option ObjectState) → a [] ≡ b → run (ys rest) (after_turn (copying_turn copying w path kind (now [])) rest (now rest)) ≡ run (ys rest) (left rest)
       start None e =
-          subst (λ b. IsMendedAt (copying_turn copying v path kind b) (copying_turn copying w path kind (run (take (j []) (ys [])) (after_turn (copying_turn copying v path kind b) [] (a []))))) (sym e) after_put
+          subst (λ b. RecoversAt (copying_turn copying v path kind b) (copying_turn copying w path kind (run (take (j []) (ys [])) (after_turn (copying_turn copying v path kind b) [] (a []))))) (sym e) after_put
       start (Some x) e =
-          subst (λ b. IsMendedAt (copying_turn copying v path kind b) (copying_turn copying w path kind (run (take (j []) (ys [])) (after_turn (copying_turn copying v path kind b) [] (a []))))) (sym e)
+          subst (λ b. RecoversAt (copying_turn copying v path kind b) (copying_turn copying w path kind (run (take (j []) (ys [])) (after_turn (copying_turn copying v path kind b) [] (a []))))) (sym e)
           (kept x e (same_kind kind x.body.kind) refl (is_directory kind && is_childless v path) refl copying.renews refl)
 
 -- ---- before the copy has come to its path
 
--- what stands at a path below, from what stood there when the line began: the same, some of what is set, or nothing
+-- the object at a path below, from what stood there when the line began: the same, some of what is set, or nothing
 pub data IsBegun (sets : List Operation) (turn : Turn) (rest : Path) (old new : Option ObjectState) : Type 0 where
   kept : new ≡ old → IsBegun sets turn rest old new
   some_set : (k : ℕ) → rest ≡ [] → turn ≡ Turn.Become sets → new ≡ run (take k (parts sets)) old → IsBegun sets turn rest old new
@@ -207,8 +207,8 @@ module _ (copying : Copying) (kind : Kind) (path : Path) (v w : View) (a c : Pat
           let like = adjusted_like (take g.1.0 (parts copying.sets)) (all_take is_adjustment g.1.0 (parts copying.sets) (parts_adjust copying.sets adjust)) x in
           (like.0, g.1.1 ∙ ap (run (take g.1.0 (parts copying.sets))) f ∙ like.1, like.2.kind)
 
-  pub begun_mends : after_turn (second (c [])) rest (c rest) ≡ after_turn (copying_turn copying v path kind (a [])) rest (a rest)
-  begun_mends = start (a []) refl
+  pub begun_recovers : after_turn (second (c [])) rest (c rest) ≡ after_turn (copying_turn copying v path kind (a [])) rest (a rest)
+  begun_recovers = start (a []) refl
     where
       with_object : (x : ObjectState) → a [] ≡ Some x → (s : Bool) → same_kind kind x.body.kind ≡ s → (empty : Bool) → (is_directory kind && is_childless v path) ≡ empty → (renews : Bool) → copying.renews ≡ renews
           → copying_turn copying v path kind (a []) ≡ shown v s empty renews x.body.kind → after_turn (second (c [])) rest (c rest) ≡ after_turn (copying_turn copying v path kind (a [])) rest (a rest)

@@ -47,7 +47,7 @@ use Rattle.pv_sysusers.specs.Edits.{etc, with_edit}
 use Rattle.pv_sysusers.specs.FileWriting.{AccountWay, account_paths, gshadow_path, shadow_path, swept_names, with_directory}
 use Rattle.pv_layers.specs.Places.{group_path, passwd_path}
 use Rattle.pv_sysusers.specs.Accounted.{HasPlainPath, IsUsable, accounted, accounted_unless, carried_files, day_of, edit_at, edit_to, edits_at, edits_by, edits_to, edits_unless, files_at, ids_at, ids_of, lacking_at, lacking_in, lacking_unless, other_text, plan_at, text_at, unusable_by, unusable_text, unusable_texts}
-use Rattle.pv_sysusers.specs.Mended.{EndAlike, IsMended}
+use Rattle.pv_sysusers.specs.Recovery.{EndAlike, Recovers}
 use Rattle.pv_sysusers.proofs.BesideLaws.{AreElse, edits_left, first_all}
 use Rattle.pv_sysusers.proofs.FileWritingLaws.{directory_object_states, no_directory, parent_object_states, with_some}
 use Rattle.pv_sysusers.proofs.EditingLaws.{IsWell, all_usable, all_well}
@@ -384,7 +384,7 @@ module _ (requests : List Request) (now : ℕ) (t : Files) (texts : Texts) (well
       usable_accounted (unusable_texts (places t)) (lacking_in (plan_at requests now (places t)).texts) (edits_by (places t) (plan_at requests now (places t)).texts) now t well (ap lacking_in is)
       ∙ ap (λ r. carried_files now (edits_by (places t) r) t) is
 
-  -- what stands at a path, by what stood there when the texts were put
+  -- the object at a path, by what stood there when the texts were put
   leaves_at : (q : Path) → object_states (places (accounted requests now t)) q
       ≡ after_all_edits (places t) texts q (object_states (with_directory now (edits_to (places t) texts) (all_taken now swept_names (places t))) q)
   leaves_at q =
@@ -571,10 +571,10 @@ module _ (t : Places) where
 
 -- ---- all stops
 
--- from a tree on the way a whole run ends alike
-pub way_mended : (requests : List Request) → AllByRecursion IsAllowed requests → AllByRecursion HasPlainPath requests → (now later : ℕ) → now < 2 ^ 64 → (t u : Files) → IsTree t
+-- from a tree on the way a complete run ends alike
+pub way_recovered : (requests : List Request) → AllByRecursion IsAllowed requests → AllByRecursion HasPlainPath requests → (now later : ℕ) → now < 2 ^ 64 → (t u : Files) → IsTree t
     → AccountWay (edits_at requests now (places t)) t u → EndAlike now later (accounted requests now t) (accounted requests later u)
-way_mended requests allowed plain now later small t u tree way = by (unusable_texts (places t)) refl (plan_at requests now (places t)).texts refl
+way_recovered requests allowed plain now later small t u tree way = by (unusable_texts (places t)) refl (plan_at requests now (places t)).texts refl
   where
     stays : (v : Files) (moment : ℕ) → ((unusable_texts (places v)) ≡ [] → (lacking_in (plan_at requests moment (places v)).texts ≡ None) → ⊥) → accounted requests moment v ≡ v
     stays v moment never = by_both (unusable_texts (places v)) refl (lacking_in (plan_at requests moment (places v)).texts) refl
@@ -662,17 +662,17 @@ way_mended requests allowed plain now later small t u tree way = by (unusable_te
     by [] e (Ok texts) d = with_texts texts d e
 
 -- a run that went by steps is finished after any of them
-pub run_mended : (requests : List Request) (now : ℕ) → now < 2 ^ 64 → (edits : List Edit) (Q : Step → Type 0) (t : Files) (h : List Step) (u : Files) (k : List Step) → IsTree t → edits ≡ edits_at requests now (places t)
-    → Ran (AccountWay edits t) Q now t h u k → IsMended requests now t (drop (length h) k)
-run_mended requests now small edits Q t h u k tree are run n later allowed =
-    way_mended requests allowed (plain_lines requests allowed) now later small t (after_all t (take n (drop (length h) k)) now) tree
+pub run_recovered : (requests : List Request) (now : ℕ) → now < 2 ^ 64 → (edits : List Edit) (Q : Step → Type 0) (t : Files) (h : List Step) (u : Files) (k : List Step) → IsTree t → edits ≡ edits_at requests now (places t)
+    → Ran (AccountWay edits t) Q now t h u k → Recovers requests now t (drop (length h) k)
+run_recovered requests now small edits Q t h u k tree are run n later allowed =
+    way_recovered requests allowed (plain_lines requests allowed) now later small t (after_all t (take n (drop (length h) k)) now) tree
     (subst (λ (es : List Edit). AccountWay es t (after_all t (take n (drop (length h) k)) now)) are
     (subst (λ (steps : List Step). AccountWay edits t (after_all t (take n steps) now)) (sym (ap (drop (length h)) run.recorded ∙ drop-append_seam h run.steps)) (along_prefix (AccountWay edits t) t run.steps now n run.along)))
 
 -- and so is one that has done nothing
-pub none_mended : (requests : List Request) (now : ℕ) → now < 2 ^ 64 → (t : Files) (h : List Step) → IsTree t → IsMended requests now t (drop (length h) h)
-none_mended requests now small t h tree n later allowed =
-    way_mended requests allowed (plain_lines requests allowed) now later small t (after_all t (take n (drop (length h) h)) now) tree
+pub none_recovered : (requests : List Request) (now : ℕ) → now < 2 ^ 64 → (t : Files) (h : List Step) → IsTree t → Recovers requests now t (drop (length h) h)
+none_recovered requests now small t h tree n later allowed =
+    way_recovered requests allowed (plain_lines requests allowed) now later small t (after_all t (take n (drop (length h) h)) now) tree
     (inl (subst (λ (steps : List Step). Same (after_all t (take n steps) now) t) (sym (drop-length h)) (λ q object_state. ap (λ (steps : List Step). object_states (places (after_all t steps now)) q) (none_taken n))))
   where
     none_taken : (j : ℕ) → ◌≡◌ {A = List Step} (take j []) []

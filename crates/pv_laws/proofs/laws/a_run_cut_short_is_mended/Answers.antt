@@ -1,5 +1,0 @@
-use Rattle.pv_laws.proofs.StateStops.{run_mends}
-use Rattle.pv_laws.proofs.laws.a_run_cut_short_is_mended.Goals as goal
-
-pub returns : goal.returns
-returns c = λ lines now later t u tree there are distinct repeatable quiet again way. run_mends lines are distinct repeatable now later t u tree there quiet again way
