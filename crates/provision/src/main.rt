@@ -67,8 +67,8 @@ fn run<S: Source, K: Sink, H: Host>(
 ) -> ExitCode
     ensures status { IsStatusOf (map string_bytes (drop 1 arguments.now)) clock_micros (S.left source.old)
         (K.written sink.old) (K.written sink.new)
-        (record { content = H.content host.old; faults = H.faults host.old })
-        (record { content = H.content host.new; faults = H.faults host.new })
+        (record { content = H.content host.old; changes = H.changes host.old; faults = H.faults host.old })
+        (record { content = H.content host.new; changes = H.changes host.new; faults = H.faults host.new })
         (HasRisen (S.faults source.old) (S.faults source.new)) (HasRisen (K.faults sink.old) (K.faults sink.new))
         (HasRisen (H.faults host.old) (H.faults host.new)) (exit_status result) }
     // The source is not read for words without a meaning, those that name a folder, and those of a generated tree.
@@ -81,7 +81,8 @@ fn run<S: Source, K: Sink, H: Host>(
     ExitCode::from(status(&outcome))
 }
 
-/// Ends where the arguments could not be had: with 71 for want of memory; else one is no text, and is a word without a meaning.
+/// Ends the program if the arguments could not be had. The status is 71 if memory ran out. Otherwise an argument is not
+/// UTF-8 text, and it is answered as a word without a meaning.
 fn end_without_words<S: Source, K: Sink, H: Host>(
     alloc: Global,
     error: &io::Error,
@@ -92,8 +93,8 @@ fn end_without_words<S: Source, K: Sink, H: Host>(
     ensures memory { error_kind error.now ≡ ErrorKind.OutOfMemory → exit_status result ≡ 71 }
     ensures usage { error_kind error.now ≢ ErrorKind.OutOfMemory → IsStatusOf [] 0 (S.left source.old)
         (K.written sink.old) (K.written sink.new)
-        (record { content = H.content host.old; faults = H.faults host.old })
-        (record { content = H.content host.new; faults = H.faults host.new })
+        (record { content = H.content host.old; changes = H.changes host.old; faults = H.faults host.old })
+        (record { content = H.content host.new; changes = H.changes host.new; faults = H.faults host.new })
         (HasRisen (S.faults source.old) (S.faults source.new)) (HasRisen (K.faults sink.old) (K.faults sink.new))
         (HasRisen (H.faults host.old) (H.faults host.new)) (exit_status result) }
     ensures host_unused { host.new ≡ host.old }

@@ -1,5 +1,5 @@
 -- A run of systemd-sysusers leaves presence, kind and payload of what its lines are read from, staging names included: where
--- a folder of these is there, no step of the run brings, takes away or rewrites anything below it; where it is absent it
+-- a folder of these is there, no step of the run brings, takes away or rewrites anything below it; if it is absent it
 -- stays so, and all below it.
 use Rattle.std.specs.Prelude.{◌≡◌, ◌≢◌, ℕ, Bool, true, false, ◌||◌, List, [], ◌∷◌, map, Option, Some, None, is_some, option_map}
 use Rattle.std.proofs.Common.{refl, sym, ap, subst, ◌∙◌, inl, inr}
@@ -154,7 +154,7 @@ module _ (f q : Path) (folder : IsFolder f) (under : is_prefix f q ≡ true) (st
 
 -- ---- runs
 
--- what stands at two places alike but for stamps has one content
+-- the object at two places alike except for timestamps has one content
 same_content : (a b : Option Object) → option_map object_state a ≡ option_map object_state b → content_of a ≡ content_of b
 same_content a b e = seen (λ x. (x.node.kind, x.payload)) (λ o. refl) a b e
 

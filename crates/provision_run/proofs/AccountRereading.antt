@@ -1,11 +1,11 @@
 -- A run that makes accounts, stopped after any of its steps, has left a tree of which the same lines are read, so that a whole
--- run from there mends it.
+-- run from there completes it.
 use Rattle.std.specs.Prelude.{◌^◌, ◌<◌, ◌≡◌, ℕ, List, length, take, drop}
 use Rattle.std.proofs.Common.{sym, ap, subst, ◌∙◌}
 use Rattle.std.proofs.Math.Seq.{drop-append_seam, drop-length, take-nil}
 use Rattle.pv_sysusers.specs.Accounted.{accounted}
 use Rattle.pv_sysusers.specs.FileWriting.{AccountWay, IsAccountStep}
-use Rattle.pv_sysusers.specs.Mended.{EndAlike, IsMended}
+use Rattle.pv_sysusers.specs.Recovery.{EndAlike, Recovers}
 use Rattle.pv_sysusers.proofs.BesideLaws.{edits_of_run}
 use Rattle.pv_read_config.specs.Configuration.{Configured}
 use Rattle.pv_read_config.specs.Requested.{requested}
@@ -19,7 +19,7 @@ use Rattle.pv_steps.proofs.RunLaws.{along_prefix, along_trees}
 use Rattle.pv_text.specs.Facts.{Values}
 use Rattle.pv_words.specs.declared.options.Options.{Options}
 use Rattle.provision_run.specs.Accounts.{run_edits, run_requests}
-use Rattle.provision_run.specs.Rereading.{AreAccountsMendedAnew, AreRequestsReread}
+use Rattle.provision_run.specs.Rereading.{AccountsRecoverAnew, AreRequestsReread}
 use Rattle.provision_run.proofs.AccountInput.{requests_after}
 use Rattle.pv_path.proofs.Tests.{all_take}
 
@@ -41,9 +41,9 @@ module _ (options : Options) (facts : Values) (moment : ℕ) (t : Files) where
   pub no_requests_reread : (h : List Step) → AreRequestsReread options facts moment t (drop (length h) h)
   no_requests_reread h n plain = ap (λ (steps : List Step). requested (after_all t steps moment) facts options.words) (ap (take n) (drop-length h) ∙ take-nil n)
 
-  -- what is mended by a run of the same lines is mended by one that reads them anew
-  pub accounts_mended_anew : (steps : List Step) → AreRequestsReread options facts moment t steps → IsMended (run_requests options facts t) moment t steps
-      → AreAccountsMendedAnew options facts moment t steps
-  accounts_mended_anew steps again mended n later plain =
+  -- what recovers by a run of the same lines recovers by one that reads them anew
+  pub accounts_recovered_anew : (steps : List Step) → AreRequestsReread options facts moment t steps → Recovers (run_requests options facts t) moment t steps
+      → AccountsRecoverAnew options facts moment t steps
+  accounts_recovered_anew steps again recovers n later plain =
       subst (λ (requests : List Request). EndAlike moment later (accounted (run_requests options facts t) moment t) (accounted requests later (after_all t (take n steps) moment)))
-      (sym (ap (λ (c : Configured Request). c.lines) (again n plain))) (mended n later (requested_allowed t facts options.words))
+      (sym (ap (λ (c : Configured Request). c.lines) (again n plain))) (recovers n later (requested_allowed t facts options.words))

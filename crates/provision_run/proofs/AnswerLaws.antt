@@ -27,9 +27,9 @@ use Rattle.provision_run.proofs.TaskLaws.{front_by}
 use Rattle.provision_run.specs.Framed.{IsFramedIn}
 use Rattle.provision_run.specs.OnTheWay.{IsOnTheWayIn}
 use Rattle.provision_run.specs.Lending.{HaveCounted}
-use Rattle.provision_run.specs.OverTree.{HasFailed, HasLeft, HasRun, IsCut, IsStopped, IsWhole, outcome_of, stopped_text}
+use Rattle.provision_run.specs.OverTree.{HasFailedBy, HasLeft, HasLeftBy, HasRun, HasRunBy, IsCut, IsStopped, IsWhole, outcome_of, stopped_text}
 use Rattle.provision_run.specs.Swept.{IsSweptIn}
-use Rattle.provision_run.specs.Whole.{final, HasMessagesBy, HasMessagesPartBy, HasGoneBy, IsCutBy, IsMendedAnewIn, IsMendedIn, is_run_step, read_messages, run_end, run_way, run_work}
+use Rattle.provision_run.specs.Whole.{final, HasMessagesBy, HasMessagesPartBy, HasGoneBy, IsCutBy, RecoversAnewIn, RecoversIn, is_run_step, read_messages, run_end, run_way, run_work}
 use Rattle.provision_run.specs.Answers.{IsAnswer, IsAnswered, IsRun, IsOwn, most_bytes}
 use Rattle.provision_run.specs.Messages.{messages_text}
 
@@ -47,25 +47,25 @@ ends end.ConfigInvalid = tt
 ends end.NotCarriedOut = tt
 ends (end.NoFreeId name) = tt
 
--- a run that was not stopped has run
+-- a run that was not stopped has run, by its steps
 whole_of : (options : Options) (facts : Values) (moment : ℕ) (t : Files) (found : Outcome) (messages : List (List ℕ)) (left : Files) → IsEnd found
-    → IsWhole options facts moment t found messages left → HasRun options facts moment t found messages left
-whole_of options facts moment t Done messages left is h = h
-whole_of options facts moment t ConfigInvalid messages left is h = h
-whole_of options facts moment t NotCarriedOut messages left is h = h
-whole_of options facts moment t Usage messages left is h = h
-whole_of options facts moment t (BadImage f) messages left is h = h
-whole_of options facts moment t (NoFreeId name) messages left is h = h
-whole_of options facts moment t Memory messages left is h = h
-whole_of options facts moment t ReadFault messages left is h = h
-whole_of options facts moment t WriteFault messages left is h = h
-whole_of options facts moment t (Stopped n) messages left is h = absurd is
-whole_of options facts moment t (BadFolder f) messages left is h = h
-whole_of options facts moment t FolderFailed messages left is h = h
+    → (h : IsWhole options facts moment t found messages left) → (steps : List Step) → h.gone.steps ≡ steps → HasRunBy options facts moment t found messages left steps
+whole_of options facts moment t Done messages left is h steps by = record { run = h; by = by }
+whole_of options facts moment t ConfigInvalid messages left is h steps by = record { run = h; by = by }
+whole_of options facts moment t NotCarriedOut messages left is h steps by = record { run = h; by = by }
+whole_of options facts moment t Usage messages left is h steps by = record { run = h; by = by }
+whole_of options facts moment t (BadImage f) messages left is h steps by = record { run = h; by = by }
+whole_of options facts moment t (NoFreeId name) messages left is h steps by = record { run = h; by = by }
+whole_of options facts moment t Memory messages left is h steps by = record { run = h; by = by }
+whole_of options facts moment t ReadFault messages left is h steps by = record { run = h; by = by }
+whole_of options facts moment t WriteFault messages left is h steps by = record { run = h; by = by }
+whole_of options facts moment t (Stopped n) messages left is h steps by = absurd is
+whole_of options facts moment t (BadFolder f) messages left is h steps by = record { run = h; by = by }
+whole_of options facts moment t FolderFailed messages left is h steps by = record { run = h; by = by }
 
 run_whole : (options : Options) (facts : Values) (moment : ℕ) (t : Files) (e : RunEnd) (found : Outcome) (messages : List (List ℕ)) (left : Files) → found ≡ outcome_of e
-    → IsWhole options facts moment t found messages left → HasRun options facts moment t found messages left
-run_whole options facts moment t e found messages left is h = whole_of options facts moment t found messages left (subst IsEnd (sym is) (ends e)) h
+    → (h : IsWhole options facts moment t found messages left) → (steps : List Step) → h.gone.steps ≡ steps → HasRunBy options facts moment t found messages left steps
+run_whole options facts moment t e found messages left is h steps by = whole_of options facts moment t found messages left (subst IsEnd (sym is) (ends e)) h steps by
 
 module _ (options : Options) (clock : ℕ) (input : List ℕ) (facts : Values) (t : Files) (image : IsImage input facts t) (fits : length input ≤ most_bytes) where
   run_of : (found : Outcome) (out : List ℕ) → IsAnswered options facts (moment_of options clock) t found out → IsRun options clock input found out
@@ -154,10 +154,14 @@ own_not_written found h e = subst IsOwn e h
 
 -- ---- what a run over any tree says of itself
 
+-- what holds of two trees holds of trees that are the same
+pub moved : {S : Type 0} {a b x y : S} (P : S → S → Type 0) → a ≡ b → x ≡ y → P a x → P b y
+moved {S} {a} {b} {x} {y} P p q h = subst (λ (s : S). P s y) p (subst (λ (u : S). P a u) q h)
+
 module _ (options : Options) (facts : Values) (moment : ℕ) (t u : Files) (h k : List Step) (start : h ≡ [])
     (ran : Ran (run_way options facts moment t) (is_run_step options facts moment t) moment t h u k)
-    (mended : IsMendedIn (task_of options) options facts moment t (drop (length h) k))
-    (anew : IsMendedAnewIn (task_of options) options facts moment t (drop (length h) k))
+    (recovers : RecoversIn (task_of options) options facts moment t (drop (length h) k))
+    (anew : RecoversAnewIn (task_of options) options facts moment t (drop (length h) k))
     (framed : IsFramedIn (task_of options) options facts moment t (drop (length h) k))
     (between : IsOnTheWayIn (task_of options) options facts moment t (drop (length h) k)) where
   -- the steps that it added are all that are told
@@ -173,20 +177,20 @@ module _ (options : Options) (facts : Values) (moment : ℕ) (t u : Files) (h k 
     way = ran.along;
     asked = ran.gives;
     reached = ran.reached;
-    mended = subst (IsMendedIn (task_of options) options facts moment t) added mended;
-    anew = subst (IsMendedAnewIn (task_of options) options facts moment t) added anew;
+    recovers = subst (RecoversIn (task_of options) options facts moment t) added recovers;
+    anew = subst (RecoversAnewIn (task_of options) options facts moment t) added anew;
     framed = subst (IsFramedIn (task_of options) options facts moment t) added framed;
     between = subst (IsOnTheWayIn (task_of options) options facts moment t) added between;
   }
 
   -- whatever it answered
-  pub left_run : HasLeft options facts moment t u
-  left_run = left_here
+  pub left_run : HasLeftBy options facts moment t u k
+  left_run = record { gone = left_here; by = sym all_told }
 
   pub whole_run : (e : RunEnd) (found : Outcome) (messages : List (List ℕ)) → found ≡ outcome_of e → e ≡ run_end options facts moment t
       → u ≡ final options facts moment t → IsSweptIn (task_of options) options facts moment t u
       → HasMessagesBy (task_of options) options facts moment t [] messages → HasGoneBy (task_of options) options facts moment 0 t (drop (length h) k) [] messages
-      → IfSome options.stop_after (λ n. length k ≤ n) → HasRun options facts moment t found messages u
+      → IfSome options.stop_after (λ n. length k ≤ n) → HasRunBy options facts moment t found messages u k
   whole_run e found messages is ended final_is staged all in_turn few = run_whole options facts moment t e found messages u is (record {
     end = is ∙ ap outcome_of ended;
     new_messages = all.0;
@@ -199,7 +203,7 @@ module _ (options : Options) (facts : Values) (moment : ℕ) (t u : Files) (h k 
         (append_cancel_left (read_messages options facts t) in_turn.0 all.0 (sym in_turn.1.0 ∙ all.1.1)) in_turn.1.1);
     within = subst (λ x. IfSome options.stop_after (λ n. length x ≤ n)) all_told few;
     staged = staged;
-  })
+  }) k (sym all_told)
 
   -- one of which a step was refused
   module _ (messages : List (List ℕ)) (bound : (length k - length h) + 1 ≤ run_work options facts moment t)
@@ -216,18 +220,21 @@ module _ (options : Options) (facts : Values) (moment : ℕ) (t u : Files) (h k 
       at_work = subst (λ (steps : List Step). IsCutBy (task_of options) options facts moment 1 t steps stopped.0) added stopped.1.1;
     }
 
-    pub failed_run : HasFailed options facts moment t messages u
-    failed_run = (stopped.0, (stopped.1.0, cut_here))
+    pub failed_run : HasFailedBy options facts moment t messages u k
+    failed_run = record { run = (stopped.0, (stopped.1.0, cut_here)); by = sym all_told }
 
-    pub stopped_run : (n : ℕ) (all : List (List ℕ)) → options.stop_after ≡ Some n → length k ≡ n → all ≡ messages ++ stopped_text n ∷ []
-        → IsStopped options facts moment t n all u
-    stopped_run n all limit count is = record {
+    abbrev stopped_here : (n : ℕ) (all : List (List ℕ)) → options.stop_after ≡ Some n → length k ≡ n → all ≡ messages ++ stopped_text n ∷ [] → IsStopped options facts moment t n all u
+    stopped_here n all limit count is = record {
       limit = limit;
       new_messages = stopped.0;
       cut = cut_here;
       count = ap length (sym all_told) ∙ count;
       messages_are = is ∙ ap (λ x. x ++ stopped_text n ∷ []) stopped.1.0;
     }
+
+    pub stopped_run : (n : ℕ) (all : List (List ℕ)) → options.stop_after ≡ Some n → length k ≡ n → all ≡ messages ++ stopped_text n ∷ []
+        → HasRunBy options facts moment t (Stopped n) all u k
+    stopped_run n all limit count is = record { run = stopped_here n all limit count is; by = sym all_told }
 
 -- the answer to a run over an image
 pub answered : (options : Options) (facts : Values) (moment : ℕ) (t left : Files) (found : Outcome) (messages : List (List ℕ)) → HasRun options facts moment t found messages left

@@ -1,4 +1,4 @@
--- The boot law: a run of removing and then creating that was stopped is mended by a whole one.
+-- Crash safety of the boot command: a run of removing and then creating that was stopped recovers by a complete one.
 use Rattle.std.specs.Prelude.{◌≡◌, ◌⊎◌, ℕ, ◌<◌, ◌^◌, Bool, true, false, cond, List, [], ◌∷◌, ◌++◌, length, take, drop, Option, Some, None, is_some, option_map}
 use Rattle.std.proofs.Common.{refl, sym, ap, subst, ◌∙◌, inl, inr, arith}
 use Rattle.std.proofs.Math.Seq.{drop-append_seam}
@@ -22,12 +22,12 @@ use Rattle.pv_laws.proofs.Making.{is_dir, IsShaped, same_unnamed}
 use Rattle.pv_laws.proofs.Moments.{created_same, quiet_same}
 use Rattle.pv_laws.proofs.Sets.{impossible}
 use Rattle.pv_laws.proofs.Shapes.{tree_shaped}
-use Rattle.pv_laws.proofs.Stops.{created_point, in_order_plain, partway_piece, piece_mends}
+use Rattle.pv_laws.proofs.Stops.{created_point, in_order_plain, partway_piece, piece_recovers}
 use Rattle.pv_lines.specs.declared.line.Line.{Line}
 use Rattle.pv_lines.specs.Lines.{IsLine}
 use Rattle.pv_path.specs.Paths.{Path, has_names, has_staging}
 use Rattle.pv_remove.proofs.AgainLaws.{goes_too, removed_tree}
-use Rattle.pv_remove.proofs.StopLaws.{object_states-without, removal_mends}
+use Rattle.pv_remove.proofs.StopLaws.{object_states-without, removal_recovers}
 use Rattle.pv_table.proofs.GoingLaws.{told_prefix}
 use Rattle.pv_steps.specs.declared.object.Object.{Object}
 use Rattle.pv_steps.specs.declared.step.Step.{Step}
@@ -43,8 +43,8 @@ use Rattle.pv_table.specs.Pointwise.{ObjectStates}
 use Rattle.pv_table.specs.Removed.{is_gone, is_unfinished, removed}
 use Rattle.pv_table.specs.Repeatable.{IsRepeatable}
 use Rattle.pv_table.proofs.ListedLaws.{all_in_order, all_map}
-use Rattle.provision_run.specs.Booted.{booted, IsBootBetween, IsBootMended}
-use Rattle.provision_run.specs.BootedAgain.{IsBootMendedAgain, IsBootStoppedAgain, StoppedBoots}
+use Rattle.provision_run.specs.Booted.{booted, IsBootBetween, BootRecovers}
+use Rattle.provision_run.specs.BootedAgain.{BootRecoversAgain, IsBootStoppedAgain, StoppedBoots}
 use Rattle.provision_run.specs.Phases.{boot_phases, phases_course}
 use Rattle.provision_run.specs.declared.phase.Phase.TheVariants.{Remove, Create}
 use Rattle.provision_run.proofs.PhaseFrameLaws.{left_shaped}
@@ -55,7 +55,7 @@ some_directory None h = impossible h
 some_directory (Some x) h = (x, refl)
 
 module _ (lines : List Line) where
-  -- ---- what removing leaves, stamps aside
+  -- ---- what removing leaves, timestamps aside
 
   removed_object_state : (now : ℕ) (t : Files) (q : Path) → object_states (places (removed lines now t)) q ≡ cond (is_gone lines t q) None (object_states (places t) q)
   removed_object_state now t q = object_states-without (is_gone lines t) (modified now) (λ o. refl) t q
@@ -70,7 +70,7 @@ module _ (lines : List Line) where
   pub removed_same : (now later : ℕ) (t : Files) → SameObjectStates (removed lines now t) (removed lines later t)
   removed_same now later t q = object_states_of-same (places (removed lines now t)) (places (removed lines later t)) q (removed_object_state now t q ∙ sym (removed_object_state later t q))
 
-  -- nor does a whole run
+  -- nor does a complete run
   pub booted_same : (now later : ℕ) (t : Files) → Same (booted lines now t) (booted lines later t)
   booted_same now later t q plain =
       object_states-same (places (booted lines now t)) (places (booted lines later t)) q
@@ -133,7 +133,7 @@ module _ (lines : List Line) (are : AllByRecursion IsLine lines) where
     still_alike : (now : ℕ) (x v : Files) → IsTree x → IsTree v → IsQuiet lines now (removed lines now x) → Partway (phases_course lines now) boot_phases x v → EndsAlike x → EndsAlike v
     unfolding EndsAlike
     still_alike now x v tree there quiet (inl pruned) ends q plain named =
-        ap (run (operations_of (in_create_order lines) q)) (object_states_of-same (places (removed lines 0 v)) (places (removed lines 0 x)) q (removal_mends lines 0 0 x v there pruned q plain))
+        ap (run (operations_of (in_create_order lines) q)) (object_states_of-same (places (removed lines 0 v)) (places (removed lines 0 x)) q (removal_recovers lines 0 0 x v there pruned q plain))
         ∙ ends q plain named
     still_alike now x v tree there quiet (inr way) ends q plain named = by (is_gone lines v q) refl
       where
@@ -144,7 +144,7 @@ module _ (lines : List Line) (are : AllByRecursion IsLine lines) where
         by true gone = ap (run (operations_of (in_create_order lines) q)) (absent lines 0 v q gone ∙ sym (gone_absent s v start whole 0 q gone))
         by false stays =
             ap (run (operations_of (in_create_order lines) q)) (kept lines 0 v q stays)
-            ∙ piece_mends lines are distinct repeatable q named (object_states_of (places (removed lines now x)) q) (object_states_of (places v) q) piece
+            ∙ piece_recovers lines are distinct repeatable q named (object_states_of (places (removed lines now x)) q) (object_states_of (places v) q) piece
             ∙ ap (run (operations_of (in_create_order lines) q)) (removed_same lines now 0 x q)
             ∙ ends q plain named
 
@@ -156,9 +156,9 @@ module _ (lines : List Line) (are : AllByRecursion IsLine lines) where
     unfolding EndsAlike
     begins_alike = λ q plain named. refl
 
-    pub boots_mend : (moments : List ℕ) (now later : ℕ) (u : Files) → IsTree u → StoppedBoots lines moments s u → IsQuiet lines later (removed lines later u) → Same (booted lines later u) (booted lines now s)
+    pub boots_recover : (moments : List ℕ) (now later : ℕ) (u : Files) → IsTree u → StoppedBoots lines moments s u → IsQuiet lines later (removed lines later u) → Same (booted lines later u) (booted lines now s)
     unfolding EndsAlike
-    boots_mend moments now later u there runs again q plain =
+    boots_recover moments now later u there runs again q plain =
         booted_same lines later 0 u q plain
         ∙ object_states-same (places (created lines 0 (removed lines 0 u))) (places (created lines 0 (removed lines 0 s))) q (
         same_unnamed (object_states_of (places (created lines 0 (removed lines 0 u)))) (object_states_of (places (created lines 0 (removed lines 0 s)))) (made_shaped u there) (made_shaped s start) q plain (λ named.
@@ -192,9 +192,9 @@ module _ (lines : List Line) (are : AllByRecursion IsLine lines) where
         subst (λ (steps : List Step). IsTree (after_all t (take n steps) now)) (sym (ap (drop (length h)) run.recorded ∙ drop-append_seam h run.steps))
         (along_prefix IsTree t run.steps now n (along_trees (Partway (phases_course lines now) boot_phases t) t run.steps now fits tree run.along))
 
-    pub boot_mended : are_distinct lines ≡ true → IsBootMended lines now t (drop (length h) k)
-    boot_mended distinct = λ n later repeatable none whole quiet again.
-        boots_mend none distinct repeatable t tree whole (now ∷ []) now later (at_moment n) (tree_at n) (quiet, (at_moment n, tree_at n, way_at n, refl)) again
+    pub boot_recovered : are_distinct lines ≡ true → BootRecovers lines now t (drop (length h) k)
+    boot_recovered distinct = λ n later repeatable none whole quiet again.
+        boots_recover none distinct repeatable t tree whole (now ∷ []) now later (at_moment n) (tree_at n) (quiet, (at_moment n, tree_at n, way_at n, refl)) again
 
     pub boot_amid : IsBootBetween lines now t (drop (length h) k)
     boot_amid = λ n. boot_between now t (at_moment n) fits tree (way_at n)
@@ -202,9 +202,9 @@ module _ (lines : List Line) (are : AllByRecursion IsLine lines) where
     pub boot_stopped : IsBootStoppedAgain lines now t (drop (length h) k)
     boot_stopped = λ s moments n before quiet. then_stopped moments now s t (at_moment n) before (quiet, (at_moment n, tree_at n, way_at n, refl))
 
-    pub boot_mended_again : are_distinct lines ≡ true → IsBootMendedAgain lines now t (drop (length h) k)
-    boot_mended_again distinct = λ s moments n first later start repeatable none whole before quiet again.
-        boots_mend none distinct repeatable s start whole (moments ++ now ∷ []) first later (at_moment n) (tree_at n) (boot_stopped s moments n before quiet) again
+    pub boot_recovered_again : are_distinct lines ≡ true → BootRecoversAgain lines now t (drop (length h) k)
+    boot_recovered_again distinct = λ s moments n first later start repeatable none whole before quiet again.
+        boots_recover none distinct repeatable s start whole (moments ++ now ∷ []) first later (at_moment n) (tree_at n) (boot_stopped s moments n before quiet) again
 
   -- ---- each step gives what lines leave, from what removing leaves
 

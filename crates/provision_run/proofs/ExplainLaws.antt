@@ -14,7 +14,7 @@ use Rattle.pv_words.specs.declared.options.Options.{Options}
 use Rattle.provision_run.specs.Explained.{IsExplanationOf, explained_messages}
 use Rattle.provision_run.specs.Phased.{run_lines}
 
--- what lines leave at a path in a run that refuses none, where none has a reason
+-- what lines leave at a path in a run that refuses none, where none has a hazard
 abbrev pub IsLeft : Path → Files → Explained → List Line → Type 0
 IsLeft path t stated lines = (moment : ℕ) → IsRepeatable lines → IsQuiet lines moment t → has_staging path ≡ false
     → option_map object_state_in stated.node ≡ object_states_of (places (created lines moment t)) path

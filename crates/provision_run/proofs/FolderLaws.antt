@@ -1,33 +1,40 @@
 -- From a run over the tree of a folder to what belongs to the folder.
-use Rattle.std.specs.Prelude.{◌≡◌, ◌≤◌, ◌<◌, ◌+◌, ◌⊎◌, min, ℕ, true, false, List, [], ◌∷◌, take, Option, Some, None, Result, Ok, Err, IfOk, IfSome, IsErrOf, OnErr, OnOk, Bool}
+use Rattle.std.specs.Prelude.{◌≡◌, ◌≤◌, ◌<◌, ◌+◌, ◌⊎◌, min, ℕ, true, false, List, [], ◌∷◌, ◌++◌, map, take, Option, Some, None, Result, Ok, Err, IfOk, IfSome, IsErrOf, OnErr, OnOk, Bool}
 use Rattle.std.specs.Io.KnownBytes.{Appends}
-use Rattle.std.proofs.Common.{arith, inl, inr, refl, sym, ap, subst, ◌∙◌}
+use Rattle.std.specs.Option.{option_to_list}
+use Rattle.std.proofs.Common.{arith, inl, inr, refl, sym, ap, subst, ◌∙◌, append_assoc, append-nil}
 use Rattle.std.proofs.Math.Nat.{eq-or-lt_of_le, min-le_right}
 use Rattle.pv_io.specs.Faults.{HasRisen, fault_after, last_count}
 use Rattle.pv_io.specs.Transfers.{AppendsFront}
 use Rattle.pv_path.specs.Paths.{Path}
 use Rattle.pv_steps.specs.declared.tree.TreeFault.{TreeFault}
 use Rattle.pv_steps.specs.declared.tree.TreeFault.TheVariants as step
-use Rattle.pv_steps.specs.Trees.{Files}
+use Rattle.pv_steps.specs.declared.step.Step.{Step}
+use Rattle.pv_steps.specs.Runs.{after_all}
+use Rattle.pv_steps.specs.Steps.{Can}
+use Rattle.pv_steps.specs.Trees.{Files, places}
 use Rattle.pv_steps.specs.Counting.{faults_after, refused}
 use Rattle.pv_text.specs.Facts.{Values}
 use Rattle.pv_words.specs.declared.options.Options.{Options}
-use Rattle.pv_folder.specs.Content.{Content, File, Held, IsContent, held}
+use Rattle.pv_folder.specs.Content.{Change, Content, File, Held, IsContent, held}
 use Rattle.pv_folder.specs.declared.host.HostFault.{HostFault}
 use Rattle.pv_folder.specs.declared.host.HostFault.TheVariants as host
 use Rattle.pv_folder.specs.Counts.{count_after}
-use Rattle.pv_folder.specs.Folders.{Agrees, manifest_path}
-use Rattle.pv_folder.specs.Keeping.{IsAtMostAhead, IsClosed, IsSameButNew, Keeps, Moves, level}
+use Rattle.pv_folder.specs.Folders.{Agrees, manifest_path, tree_path}
+use Rattle.pv_folder.specs.Keeping.{FolderState, HasAsked, IsAtMostAhead, IsClosed, IsSameButNew, Keeps, Moves, all_made, at_rest, change_for, changes_for, level, one_more}
+use Rattle.pv_folder.specs.Made.{HasMade, made_on}
 use Rattle.pv_folder.specs.Manifest.{IsManifest, manifest_of}
+use Rattle.pv_folder.specs.Moments.{changes_of, closing as closing_changes}
 use Rattle.pv_folder.specs.Opening.{IsOpened, IsRefused, is_outer}
 use Rattle.pv_folder.specs.declared.open_fault.OpenFault.{OpenFault}
 use Rattle.pv_folder.proofs.KeepingLaws.{opened_keeps}
+use Rattle.pv_folder.proofs.MadeLaws.{changes_at_once, changes_one_more}
 use Rattle.provision_run.specs.declared.answer.Answer.{Answer}
 use Rattle.provision_run.specs.declared.outcome.Outcome.{Outcome}
 use Rattle.provision_run.specs.declared.outcome.Outcome.TheVariants.{Done, ConfigInvalid, NotCarriedOut, Usage, BadImage, NoFreeId, Memory, ReadFault, WriteFault, Stopped, BadFolder, FolderFailed}
 use Rattle.provision_run.specs.Messages.{messages_text}
-use Rattle.provision_run.specs.OnFolder.{EndsAs, HostState, IfTold, IsCutOn, IsFailedOn, IsRefusedOn, IsShort, IsShortOn, IsUnclosed, as_run, step_failed, step_and_keeping_failed, keeping_failed, bad_folder_text, before_steps, in_opening, in_run, in_step, in_step_and_keeping, in_keeping, HasOutputOn, HasWrittenOn, IsAnswerOn, IsKept, IsRunOn, WasOpened}
-use Rattle.provision_run.specs.OverTree.{HasFailed, HasLeft, HasRun}
+use Rattle.provision_run.specs.OnFolder.{AreAsked, EndsAs, HasAskedFor, HasRunOn, HostState, IfTold, IsCutOn, IsFailedOn, IsRefusedOn, IsShort, IsShortOn, IsUnclosed, all_done, as_run, one_step_more, step_failed, step_and_keeping_failed, keeping_failed, bad_folder_text, before_steps, in_opening, in_run, in_step, in_step_and_keeping, in_keeping, HasOutputOn, HasWrittenOn, IsAnswerOn, IsKept, IsRunOn, WasOpened}
+use Rattle.provision_run.specs.OverTree.{HasFailed, HasFailedBy, HasLeft, HasLeftBy, HasRun, HasRunBy, gone_before, gone_of}
 use Rattle.provision_run.specs.Words.{moment_of}
 use Rattle.provision_run.proofs.AnswerLaws.{ends, IsEnd, refused_risen}
 use Rattle.provision_run.proofs.ClosedLaws.{has_closed, kept_in, kept_short, short_in, unclosed_in, unclosed_is_short}
@@ -71,24 +78,6 @@ risen_from old mid new up (inr h) = inr h
 fault_after_le : (old mid : ℕ) → old ≤ mid → fault_after old ≤ fault_after mid
 fault_after_le old mid up = let stated : min (old + 1) last_count ≤ min (mid + 1) last_count = omega (arith, up) in stated
 
--- ---- a run that has ended
-
-module _ (options : Options) (facts : Values) (moment : ℕ) (t : Files) where
-  -- what it has left is what steps of it have left
-  run_left : (found : Outcome) (messages : List (List ℕ)) (left : Files) → HasRun options facts moment t found messages left → HasLeft options facts moment t left
-  run_left Done messages left h = h.gone
-  run_left ConfigInvalid messages left h = h.gone
-  run_left NotCarriedOut messages left h = h.gone
-  run_left Usage messages left h = h.gone
-  run_left (BadImage f) messages left h = h.gone
-  run_left (NoFreeId name) messages left h = h.gone
-  run_left Memory messages left h = h.gone
-  run_left ReadFault messages left h = h.gone
-  run_left WriteFault messages left h = h.gone
-  run_left (Stopped n) messages left h = h.cut.gone
-  run_left (BadFolder f) messages left h = h.gone
-  run_left FolderFailed messages left h = h.gone
-
 -- ---- how it ends
 
 -- by how the run over its tree ended
@@ -116,12 +105,12 @@ ends_short (Err f) P never = tt
 -- ---- what belongs to an outcome
 
 -- what a host tells
-abbrev pub told : {H : Type 0} → (H → Option Content) → (H → ℕ) → H → HostState
-told content faults h = record { content = content h; faults = faults h }
+abbrev pub told : {H : Type 0} → (H → Option Content) → (H → Option (List Change)) → (H → ℕ) → H → HostState
+told content changes faults h = record { content = content h; changes = changes h; faults = faults h }
 
 module _ (folder : Path) (options : Options) (clock : ℕ) (old new : HostState) where
   abbrev RunOn : Outcome → List (List ℕ) → Type 0
-  RunOn found messages = IsRunOn folder options clock old.content new.content found messages
+  RunOn found messages = HasRunOn folder options clock old new found messages
 
   -- a run ends as a run does
   run_on : (found : Outcome) (messages : List (List ℕ)) → RunOn found messages → IsAnswerOn folder options clock old new found messages
@@ -135,25 +124,29 @@ module _ (folder : Path) (options : Options) (clock : ℕ) (old new : HostState)
   run_on ReadFault messages h = h
   run_on WriteFault messages h = h
   run_on (Stopped n) messages h = h
-  run_on (BadFolder f) messages h = absurd (subst IsEnd (sym h.run.end) (ends _))
-  run_on FolderFailed messages h = absurd (subst IsEnd (sym h.run.end) (ends _))
+  run_on (BadFolder f) messages h = absurd (subst IsEnd (sym h.run.run.end) (ends _))
+  run_on FolderFailed messages h = absurd (subst IsEnd (sym h.run.run.end) (ends _))
 
   -- an answer whose messages memory was too little for
   short_run : (found : Outcome) (messages : List (List ℕ)) → RunOn found messages → IsShortOn folder options clock old new
   short_run found messages h =
-      in_run h.facts h.tree h.left h.opened (run_left options h.facts (moment_of options clock) h.tree found messages h.left h.run)
-      (kept_short folder h.facts h.left old.content new.content h.kept)
+      let run = h.run in
+      let gone = gone_of options run.facts (moment_of options clock) run.tree found messages run.left run.run in
+      in_run run.facts run.tree run.left run.opened gone (kept_short folder run.facts run.left old.content new.content run.kept) gone.steps (all_done refl) 2 h.asked
 
   short_failed : (messages : List (List ℕ)) → IsFailedOn folder options clock old new messages → IsShortOn folder options clock old new
-  short_failed messages (in_opening none same) = before_steps same
-  short_failed messages (in_step cut) =
-      in_run cut.facts cut.tree cut.left cut.opened cut.run.1.1.gone (kept_short folder cut.facts cut.left old.content new.content cut.kept)
-  short_failed messages (in_step_and_keeping facts tree left opened run again kept) =
-      in_run facts tree left opened run.1.1.gone (unclosed_is_short folder facts left old.content new.content kept)
-  short_failed messages (in_keeping facts tree left found opened run kept) =
-      in_run facts tree left opened (run_left options facts (moment_of options clock) tree found messages left run) (unclosed_is_short folder facts left old.content new.content kept)
+  short_failed messages (in_opening none same still) = before_steps same still
+  short_failed messages (in_step cut asked) =
+      let gone = gone_before options cut.facts (moment_of options clock) cut.tree messages cut.left cut.run in
+      in_run cut.facts cut.tree cut.left cut.opened gone (kept_short folder cut.facts cut.left old.content new.content cut.kept) gone.steps (all_done refl) 2 asked
+  short_failed messages (in_step_and_keeping facts tree left opened run again kept k few asked) =
+      let gone = gone_before options facts (moment_of options clock) tree messages left run in
+      in_run facts tree left opened gone (unclosed_is_short folder facts left old.content new.content kept) gone.steps (all_done refl) k asked
+  short_failed messages (in_keeping facts tree left found opened run kept k few asked) =
+      let gone = gone_of options facts (moment_of options clock) tree found messages left run in
+      in_run facts tree left opened gone (unclosed_is_short folder facts left old.content new.content kept) gone.steps (all_done refl) k asked
 
-  short_answer : (found : Outcome) (messages : List (List ℕ)) → IsAnswerOn folder options clock old new found messages → IsShortOn folder options clock old new
+  pub short_answer : (found : Outcome) (messages : List (List ℕ)) → IsAnswerOn folder options clock old new found messages → IsShortOn folder options clock old new
   short_answer Done messages h = short_run Done messages h
   short_answer ConfigInvalid messages h = short_run ConfigInvalid messages h
   short_answer NotCarriedOut messages h = short_run NotCarriedOut messages h
@@ -164,33 +157,125 @@ module _ (folder : Path) (options : Options) (clock : ℕ) (old new : HostState)
   short_answer ReadFault messages h = short_run ReadFault messages h
   short_answer WriteFault messages h = short_run WriteFault messages h
   short_answer (Stopped n) messages h = short_run (Stopped n) messages h
-  short_answer (BadFolder f) messages h = before_steps h.kept
+  short_answer (BadFolder f) messages h = before_steps h.kept h.unasked
   short_answer FolderFailed messages h = short_failed messages h.1
 
   -- a run over the tree of a folder at its moment, which moved the tree in its folder, and what was kept of it then
   module _ (facts : Values) (tree left : Files) (moment : ℕ) (ran : Result Outcome TreeFault) (pending : Bool) (closed : Result (Unit {0}) HostFault) (messages : List (List ℕ))
-      (other : Path) (mid : Option Content) (between : ℕ) (was will : Bool)
+      (other : Path) (mid : Option Content) (middle : Option (List Change)) (between : ℕ) (was will : Bool) (before after : List Step)
+      (start : before ≡ [])
       (at : moment ≡ moment_of options clock)
       (opened : WasOpened folder old.content facts tree)
-      (run : IfOk ran (λ found. HasRun options facts moment tree found messages left))
-      (failed : IsErrOf ran step.Failed → HasFailed options facts moment tree messages left)
-      (gone : HasLeft options facts moment tree left)
+      (run : IfOk ran (λ found. HasRunBy options facts moment tree found messages left after))
+      (failed : IsErrOf ran step.Failed → HasFailedBy options facts moment tree messages left after)
+      (gone : HasLeftBy options facts moment tree left after)
       (counted : between ≡ faults_after (refused ran) old.faults)
       (settled : was ≡ false)
-      (moves : Moves (record { folder = folder; files = tree; content = old.content; faults = old.faults; pending = was })
-      (record { folder = other; files = left; content = mid; faults = between; pending = will }))
+      (moves : Moves (record { folder = folder; files = tree; steps = before; content = old.content; changes = old.changes; faults = old.faults; pending = was })
+      (record { folder = other; files = left; steps = after; content = mid; changes = middle; faults = between; pending = will }))
       (is_pending : pending ≡ will)
       (agrees : pending ≡ false → IfSome mid (λ c. Agrees other left (held c)))
       (done : OnOk closed (IsClosed other facts left mid new.content))
       (image : OnOk closed (IsManifest facts left))
       (kept : OnErr closed (IsSameButNew other mid new.content))
+      (asked : OnOk closed (HasMade (closing_changes other (manifest_of facts left)) mid new.content middle new.changes))
+      (part : OnErr closed ((k : ℕ) × ((k ≤ 1) × HasMade (take k (closing_changes other (manifest_of facts left))) mid new.content middle new.changes)))
       (more : between ≤ new.faults)
       (closing : new.faults ≡ count_after closed between) where
-    run_as : (found : Outcome) → ran ≡ Ok found → HasRun options facts (moment_of options clock) tree found messages left
-    run_as found is = subst (λ (m : ℕ). HasRun options facts m tree found messages left) at (subst (λ r. IfOk r (λ f. HasRun options facts moment tree f messages left)) is run)
+    run_as : (found : Outcome) → ran ≡ Ok found → HasRunBy options facts (moment_of options clock) tree found messages left after
+    run_as found is = subst (λ (m : ℕ). HasRunBy options facts m tree found messages left after) at (subst (λ r. IfOk r (λ f. HasRunBy options facts moment tree f messages left after)) is run)
 
-    failed_as : ran ≡ Err step.Failed → HasFailed options facts (moment_of options clock) tree messages left
-    failed_as is = subst (λ (m : ℕ). HasFailed options facts m tree messages left) at (failed is)
+    failed_as : ran ≡ Err step.Failed → HasFailedBy options facts (moment_of options clock) tree messages left after
+    failed_as is = subst (λ (m : ℕ). HasFailedBy options facts m tree messages left after) at (failed is)
+
+    gone_here : HasLeftBy options facts (moment_of options clock) tree left after
+    gone_here = subst (λ (m : ℕ). HasLeftBy options facts m tree left after) at gone
+
+    -- ---- what was asked
+
+    -- the steps that were done are those that were recorded
+    recorded_here : after ≡ map (λ s. s.0) moves.steps
+    recorded_here = moves.recorded ∙ ap (λ steps. steps ++ map (λ s. s.0) moves.steps) start
+
+    abbrev done_changes : List Change
+    done_changes = changes_of (tree_path folder) tree after (moment_of options clock)
+
+    at_once : changes_for (tree_path folder) tree moves.steps ≡ done_changes
+    at_once = changes_at_once (tree_path folder) (moment_of options clock) moves.steps tree after recorded_here
+
+    abbrev Asked : FolderState → FolderState → Type 0
+    Asked a b = HasAsked moves.steps a b
+
+    -- of a run of which no step is half done
+    made_here : pending ≡ false → HasMade done_changes old.content mid old.changes middle
+    made_here still = by moves.asked
+      where
+        by : Asked (record { folder = folder; files = tree; steps = before; content = old.content; changes = old.changes; faults = old.faults; pending = was })
+            (record { folder = other; files = left; steps = after; content = mid; changes = middle; faults = between; pending = will })
+            → HasMade done_changes old.content mid old.changes middle
+        by (all_made began made) = subst (λ (changes : List Change). HasMade changes old.content mid old.changes middle) at_once made
+        by (one_more s began half can fits made) = absurd (let no : true ≡ false = sym half ∙ sym is_pending ∙ still in cc)
+        by (at_rest half none content changes) = absurd (let no : true ≡ false = sym half ∙ settled in cc)
+
+    -- and of any
+    abbrev AskedBy : List Step → Type 0
+    AskedBy steps = AreAsked tree (moment_of options clock) after steps × HasMade (changes_of (tree_path folder) tree steps (moment_of options clock)) old.content mid old.changes middle
+
+    made_any : (steps : List Step) × AskedBy steps
+    made_any = by moves.asked
+      where
+        there : left ≡ after_all tree after (moment_of options clock)
+        there = gone_here.gone.reached ∙ ap (λ (steps : List Step). after_all tree steps (moment_of options clock)) gone_here.by
+
+        by : Asked (record { folder = folder; files = tree; steps = before; content = old.content; changes = old.changes; faults = old.faults; pending = was })
+            (record { folder = other; files = left; steps = after; content = mid; changes = middle; faults = between; pending = will })
+            → (steps : List Step) × AskedBy steps
+        by (all_made began made) = (after, (all_done refl, subst (λ (changes : List Change). HasMade changes old.content mid old.changes middle) at_once made))
+        by (one_more s began half can fits made) =
+            let all : changes_for (tree_path folder) tree moves.steps ++ option_to_list (change_for (tree_path folder) (places left) s)
+            ≡ changes_of (tree_path folder) tree (after ++ s ∷ []) (moment_of options clock) =
+            ap (λ changes. changes ++ option_to_list (change_for (tree_path folder) (places left) s)) at_once
+            ∙ ap (λ (t : Files). done_changes ++ option_to_list (change_for (tree_path folder) (places t) s)) there
+            ∙ changes_one_more (tree_path folder) (moment_of options clock) after tree s in (
+              after ++ s ∷ [],
+              (
+                one_step_more s (subst (λ (t : Files). Can (places t) s) there can) fits refl,
+                subst (λ (changes : List Change). HasMade changes old.content mid old.changes middle) all made,
+              ),
+            )
+        by (at_rest half none content changes) = absurd (let no : true ≡ false = sym half ∙ settled in cc)
+
+    abbrev Closing : ℕ → Type 0
+    Closing k = HasMade (take k (closing_changes folder (manifest_of facts left))) mid new.content middle new.changes
+
+    closing_here : closed ≡ Ok tt → Closing 2
+    closing_here is =
+        subst (λ (f : Path). HasMade (closing_changes f (manifest_of facts left)) mid new.content middle new.changes) moves.same
+        (subst (λ r. OnOk r (HasMade (closing_changes other (manifest_of facts left)) mid new.content middle new.changes)) is asked)
+
+    part_here : (f : HostFault) → closed ≡ Err f → (k : ℕ) × ((k ≤ 1) × Closing k)
+    part_here f is =
+        subst (λ (f : Path). (k : ℕ) × ((k ≤ 1) × HasMade (take k (closing_changes f (manifest_of facts left))) mid new.content middle new.changes)) moves.same
+        (subst (λ r. OnErr r ((k : ℕ) × ((k ≤ 1) × HasMade (take k (closing_changes other (manifest_of facts left))) mid new.content middle new.changes))) is part)
+
+    closing_any : (k : ℕ) × Closing k
+    closing_any = by closed refl
+      where
+        by : (r : Result (Unit {0}) HostFault) → closed ≡ r → (k : ℕ) × Closing k
+        by (Ok u) is = (2, closing_here is)
+        by (Err f) is = let some = part_here f is in (some.0, some.1.1)
+
+    asked_with : (steps : List Step) (k : ℕ) → HasMade (changes_of (tree_path folder) tree steps (moment_of options clock)) old.content mid old.changes middle → Closing k
+        → HasAskedFor folder facts (moment_of options clock) tree steps left k old new
+    asked_with steps k made closing_made =
+        made_on (changes_of (tree_path folder) tree steps (moment_of options clock)) (take k (closing_changes folder (manifest_of facts left))) old.content mid new.content old.changes middle new.changes made closing_made
+
+    -- by the steps of a run
+    asked_by : (steps : List Step) → steps ≡ after → (k : ℕ) → pending ≡ false → Closing k → HasAskedFor folder facts (moment_of options clock) tree steps left k old new
+    asked_by steps is k still closing_made =
+        subst (λ (s : List Step). HasAskedFor folder facts (moment_of options clock) tree s left k old new) (sym is) (asked_with after k (made_here still) closing_made)
+
+    -- ---- what is kept
 
     agrees_here : pending ≡ false → IfSome mid (λ c. Agrees folder left (held c))
     agrees_here still = subst (λ (f : Path). IfSome mid (λ c. Agrees f left (held c))) moves.same (agrees still)
@@ -231,8 +316,13 @@ module _ (folder : Path) (options : Options) (clock : ℕ) (old new : HostState)
 
     pub short_kept : IsShortOn folder options clock old new
     short_kept =
-        in_run facts tree left opened (subst (λ (m : ℕ). HasLeft options facts m tree left) at gone)
+        let gone_on = gone_here in
+        let any = made_any in
+        let some = closing_any in
+        in_run facts tree left opened gone_on.gone
         (short_in folder facts left old.content mid new.content moves.outside closed near_here done_here image same_here)
+        any.0 (subst (λ (done : List Step). AreAsked tree (moment_of options clock) done any.0) (sym gone_on.by) any.1.0)
+        some.0 (asked_with any.0 some.0 any.1.1 some.1)
 
     -- the host is blamed where its count of faults rose, in a step or in keeping what was left, or in both
     risen_in_step : ran ≡ Err step.Failed → HasRisen old.faults new.faults
@@ -248,13 +338,31 @@ module _ (folder : Path) (options : Options) (clock : ℕ) (old new : HostState)
 
     ended_answer : (found : Outcome) → EndsAs ran pending closed found → IsAnswerOn folder options clock old new found messages
     ended_answer found (as_run _ is still closing_is) =
-        run_on found messages (record { facts = facts; tree = tree; opened = opened; left = left; run = run_as found is; kept = kept_here still closing_is })
+        let run_is = run_as found is in
+        run_on found messages (record {
+          run = record { facts = facts; tree = tree; opened = opened; left = left; run = run_is.run; kept = kept_here still closing_is };
+          asked = asked_by (gone_of options facts (moment_of options clock) tree found messages left run_is.run).steps run_is.by 2 still (closing_here closing_is);
+        })
     ended_answer found (step_failed is still closing_is) =
-        (risen_in_step is, in_step (record { facts = facts; tree = tree; opened = opened; left = left; run = failed_as is; kept = kept_here still closing_is }))
+        let cut = failed_as is in (
+          risen_in_step is,
+          in_step (record { facts = facts; tree = tree; opened = opened; left = left; run = cut.run; kept = kept_here still closing_is })
+              (asked_by (gone_before options facts (moment_of options clock) tree messages left cut.run).steps cut.by 2 still (closing_here closing_is)),
+        )
     ended_answer found (step_and_keeping_failed is still fault) =
-        (risen_in_step is, in_step_and_keeping facts tree left opened (failed_as is) (risen_again is fault) (unclosed_here still fault))
+        let cut = failed_as is in
+        let some = part_here host.Failed fault in (
+          risen_in_step is,
+          in_step_and_keeping facts tree left opened cut.run (risen_again is fault) (unclosed_here still fault) some.0 some.1.0
+              (asked_by (gone_before options facts (moment_of options clock) tree messages left cut.run).steps cut.by some.0 still some.1.1),
+        )
     ended_answer found (keeping_failed end is still fault) =
-        (risen_by_fault old.faults between new.faults moves.count (closing_failed fault), in_keeping facts tree left end opened (run_as end is) (unclosed_here still fault))
+        let run_is = run_as end is in
+        let some = part_here host.Failed fault in (
+          risen_by_fault old.faults between new.faults moves.count (closing_failed fault),
+          in_keeping facts tree left end opened run_is.run (unclosed_here still fault) some.0 some.1.0
+              (asked_by (gone_of options facts (moment_of options clock) tree end messages left run_is.run).steps run_is.by some.0 still some.1.1),
+        )
 
     pub kept_answer : {E : Type 0} (r : Result Outcome E) → IfOk r (EndsAs ran pending closed) → IfOk r (λ found. IsAnswerOn folder options clock old new found messages)
     kept_answer (Ok found) ends = ended_answer found ends
@@ -275,25 +383,26 @@ module _ (folder : Path) (options : Options) (clock : ℕ) (old new : HostState)
         by (Err host.Memory) never is = absurd (never refl)
 
   -- a folder that is not opened
-  pub refused_output : (f : OpenFault) → is_outer f ≡ false → IfSome old.content (λ c. IsRefused folder c f) → new.content ≡ old.content
+  pub refused_output : (f : OpenFault) → is_outer f ≡ false → IfSome old.content (λ c. IsRefused folder c f) → new.content ≡ old.content → new.changes ≡ old.changes
       → {E : Type 0} (r : Result Answer E) → IfOk r (λ a. a.outcome ≡ BadFolder f) → IfOk r (λ a. a.output.items ≡ messages_text (bad_folder_text f ∷ []))
       → IfOk r (λ a. HasOutputOn folder options clock old new a.outcome a.output.items)
-  refused_output f outer refused kept (Ok a) is text = (
+  refused_output f outer refused kept unasked (Ok a) is text = (
     bad_folder_text f ∷ [],
     (
       subst (λ (o : Outcome). IsAnswerOn folder options clock old new o (bad_folder_text f ∷ [])) (sym is)
-          (record { of_folder = outer; refused = refused; message = refl; kept = kept }),
+          (record { of_folder = outer; refused = refused; message = refl; kept = kept; unasked = unasked }),
       text,
     ),
   )
-  refused_output f outer refused kept (Err e) is text = tt
+  refused_output f outer refused kept unasked (Err e) is text = tt
 
-  pub failed_opening : (out : List ℕ) → out ≡ [] → new.content ≡ old.content → HasRisen old.faults new.faults → HasOutputOn folder options clock old new FolderFailed out
-  failed_opening out none kept risen = ([], ((risen, in_opening refl kept), none))
+  pub failed_opening : (out : List ℕ) → out ≡ [] → new.content ≡ old.content → new.changes ≡ old.changes → HasRisen old.faults new.faults
+      → HasOutputOn folder options clock old new FolderFailed out
+  failed_opening out none kept unasked risen = ([], ((risen, in_opening refl kept unasked), none))
 
-  pub short_opening : new.content ≡ old.content → {A E : Type 0} (r : Result A E) → OnErr r (IsShortOn folder options clock old new)
-  short_opening kept (Ok x) = tt
-  short_opening kept (Err f) = before_steps kept
+  pub short_opening : new.content ≡ old.content → new.changes ≡ old.changes → {A E : Type 0} (r : Result A E) → OnErr r (IsShortOn folder options clock old new)
+  short_opening kept unasked (Ok x) = tt
+  short_opening kept unasked (Err f) = before_steps kept unasked
 
   -- the host is blamed where its count of faults rose
   pub output_blames : (found : Outcome) (out : List ℕ) → HasOutputOn folder options clock old new found out → found ≡ FolderFailed → HasRisen old.faults new.faults
@@ -309,14 +418,14 @@ module _ (folder : Path) (options : Options) (clock : ℕ) (old new : HostState)
   folder_written Usage out before after h a = (out, h, a)
   folder_written (BadImage f) out before after h a = (out, h, a)
   folder_written (NoFreeId name) out before after h a = (out, h, a)
-  folder_written Memory out before after h a = absurd (subst IsEnd (sym h.1.0.run.end) (ends _))
-  folder_written ReadFault out before after h a = absurd (subst IsEnd (sym h.1.0.run.end) (ends _))
-  folder_written WriteFault out before after h a = absurd (subst IsEnd (sym h.1.0.run.end) (ends _))
+  folder_written Memory out before after h a = absurd (subst IsEnd (sym h.1.0.run.run.end) (ends _))
+  folder_written ReadFault out before after h a = absurd (subst IsEnd (sym h.1.0.run.run.end) (ends _))
+  folder_written WriteFault out before after h a = absurd (subst IsEnd (sym h.1.0.run.run.end) (ends _))
   folder_written (Stopped n) out before after h a = (out, h, a)
   folder_written (BadFolder f) out before after h a = (out, h, a)
   folder_written FolderFailed out before after h a = (out, h, a)
 
-  -- a front part of it
+  -- a prefix of it
   pub folder_front : (found : Outcome) (out bytes : List ℕ) (before after : Option (List ℕ)) → bytes ≡ out → HasOutputOn folder options clock old new found out
       → AppendsFront before after bytes → HasWrittenOn folder options clock old new WriteFault before after
   unfolding HasWrittenOn
@@ -332,7 +441,7 @@ module _ (folder : Path) (options : Options) (clock : ℕ) (old new : HostState)
   unfolding HasWrittenOn
   folder_not_usage found before after h e =
       let stated = subst (λ (o : Outcome). HasWrittenOn folder options clock old new o before after) e h in
-      subst IsEnd (sym stated.1.1.0.run.end) (ends _)
+      subst IsEnd (sym stated.1.1.0.run.run.end) (ends _)
 
   pub folder_not_read : (found : Outcome) (before after : Option (List ℕ)) → HasWrittenOn folder options clock old new found before after → found ≡ ReadFault → ⊥
   unfolding HasWrittenOn
@@ -340,52 +449,57 @@ module _ (folder : Path) (options : Options) (clock : ℕ) (old new : HostState)
 
 -- ---- a folder and a host by other names
 
--- the host's content is the same from an earlier count of faults
-module _ (folder : Path) (options : Options) (clock : ℕ) (old mid new : HostState) (same : mid.content ≡ old.content) (up : old.faults ≤ mid.faults) where
-  opened_from : (facts : Values) (tree : Files) → WasOpened folder mid.content facts tree → WasOpened folder old.content facts tree
-  opened_from facts tree opened = subst (λ (o : Option Content). WasOpened folder o facts tree) same opened
+-- the host's content and changes are the same from an earlier count of faults
+module _ (folder : Path) (options : Options) (clock : ℕ) (old mid new : HostState) (same : mid.content ≡ old.content) (still : mid.changes ≡ old.changes) (up : old.faults ≤ mid.faults) where
+  -- the first state with the later count
+  abbrev first : HostState
+  first = record { content = old.content; changes = old.changes; faults = mid.faults }
 
-  told_from : (P : Held → Held → Type 0) → IfTold P mid.content new.content → IfTold P old.content new.content
-  told_from P holds = subst (λ (o : Option Content). IfTold P o new.content) same holds
+  first_is : mid ≡ first
+  first_is =
+      ap (λ (o : Option Content). record { content = o; changes = mid.changes; faults = mid.faults }) same
+      ∙ ap (λ (o : Option (List Change)). record { content = old.content; changes = o; faults = mid.faults }) still
 
-  failed_from : (messages : List (List ℕ)) → IsFailedOn folder options clock mid new messages → IsFailedOn folder options clock old new messages
-  failed_from messages (in_opening none kept) = in_opening none (kept ∙ same)
-  failed_from messages (in_step cut) = in_step (subst (λ (o : Option Content). IsCutOn folder options clock o new.content messages) same cut)
-  failed_from messages (in_step_and_keeping facts tree left opened run again kept) =
-      in_step_and_keeping facts tree left (opened_from facts tree opened) run
-      (risen_from (fault_after old.faults) (fault_after mid.faults) new.faults (fault_after_le old.faults mid.faults up) again) (told_from (IsUnclosed folder left) kept)
-  failed_from messages (in_keeping facts tree left found opened run kept) =
-      in_keeping facts tree left found (opened_from facts tree opened) run (told_from (IsUnclosed folder left) kept)
+  failed_from : (messages : List (List ℕ)) → IsFailedOn folder options clock first new messages → IsFailedOn folder options clock old new messages
+  failed_from messages (in_opening none kept unasked) = in_opening none kept unasked
+  failed_from messages (in_step cut asked) = in_step cut asked
+  failed_from messages (in_step_and_keeping facts tree left opened run again kept k few asked) =
+      in_step_and_keeping facts tree left opened run
+      (risen_from (fault_after old.faults) (fault_after mid.faults) new.faults (fault_after_le old.faults mid.faults up) again) kept k few asked
+  failed_from messages (in_keeping facts tree left found opened run kept k few asked) = in_keeping facts tree left found opened run kept k few asked
 
-  run_from : (found : Outcome) (messages : List (List ℕ)) → IsRunOn folder options clock mid.content new.content found messages → IsRunOn folder options clock old.content new.content found messages
-  run_from found messages h = subst (λ (o : Option Content). IsRunOn folder options clock o new.content found messages) same h
+  run_from : (found : Outcome) (messages : List (List ℕ)) → HasRunOn folder options clock first new found messages → HasRunOn folder options clock old new found messages
+  run_from found messages h = record { run = h.run; asked = h.asked }
+
+  answer_first : (found : Outcome) (messages : List (List ℕ)) → IsAnswerOn folder options clock first new found messages → IsAnswerOn folder options clock old new found messages
+  answer_first Done messages h = run_from Done messages h
+  answer_first ConfigInvalid messages h = run_from ConfigInvalid messages h
+  answer_first NotCarriedOut messages h = run_from NotCarriedOut messages h
+  answer_first Usage messages h = run_from Usage messages h
+  answer_first (BadImage f) messages h = run_from (BadImage f) messages h
+  answer_first (NoFreeId name) messages h = run_from (NoFreeId name) messages h
+  answer_first Memory messages h = run_from Memory messages h
+  answer_first ReadFault messages h = run_from ReadFault messages h
+  answer_first WriteFault messages h = run_from WriteFault messages h
+  answer_first (Stopped n) messages h = run_from (Stopped n) messages h
+  answer_first (BadFolder f) messages h = record { of_folder = h.of_folder; refused = h.refused; message = h.message; kept = h.kept; unasked = h.unasked }
+  answer_first FolderFailed messages h = (risen_from old.faults mid.faults new.faults up h.0, failed_from messages h.1)
 
   answer_from : (found : Outcome) (messages : List (List ℕ)) → IsAnswerOn folder options clock mid new found messages → IsAnswerOn folder options clock old new found messages
-  answer_from Done messages h = run_from Done messages h
-  answer_from ConfigInvalid messages h = run_from ConfigInvalid messages h
-  answer_from NotCarriedOut messages h = run_from NotCarriedOut messages h
-  answer_from Usage messages h = run_from Usage messages h
-  answer_from (BadImage f) messages h = run_from (BadImage f) messages h
-  answer_from (NoFreeId name) messages h = run_from (NoFreeId name) messages h
-  answer_from Memory messages h = run_from Memory messages h
-  answer_from ReadFault messages h = run_from ReadFault messages h
-  answer_from WriteFault messages h = run_from WriteFault messages h
-  answer_from (Stopped n) messages h = run_from (Stopped n) messages h
-  answer_from (BadFolder f) messages h = subst (λ (o : Option Content). IsRefusedOn folder o new.content f messages) same h
-  answer_from FolderFailed messages h = (risen_from old.faults mid.faults new.faults up h.0, failed_from messages h.1)
+  answer_from found messages h = answer_first found messages (subst (λ (s : HostState). IsAnswerOn folder options clock s new found messages) first_is h)
 
   pub output_from : {E : Type 0} (r : Result Answer E) → IfOk r (λ a. HasOutputOn folder options clock mid new a.outcome a.output.items)
       → IfOk r (λ a. HasOutputOn folder options clock old new a.outcome a.output.items)
   output_from (Ok a) h = (h.0, (answer_from a.outcome h.0 h.1.0, h.1.1))
   output_from (Err f) h = tt
 
-  short_before : IsShortOn folder options clock mid new → IsShortOn folder options clock old new
-  short_before (before_steps kept) = before_steps (kept ∙ same)
-  short_before (in_run facts tree left opened gone kept) = in_run facts tree left (opened_from facts tree opened) gone (told_from (IsShort folder facts left) kept)
+  short_first : IsShortOn folder options clock first new → IsShortOn folder options clock old new
+  short_first (before_steps kept unasked) = before_steps kept unasked
+  short_first (in_run facts tree left opened gone kept steps asked k made) = in_run facts tree left opened gone kept steps asked k made
 
   pub short_from : {A E : Type 0} (r : Result A E) → OnErr r (IsShortOn folder options clock mid new) → OnErr r (IsShortOn folder options clock old new)
   short_from (Ok x) h = tt
-  short_from (Err f) h = short_before h
+  short_from (Err f) h = short_first (subst (λ (s : HostState). IsShortOn folder options clock s new) first_is h)
 
 -- an answer to a folder by its other name, and to what the host held and holds by other names
 module _ (options : Options) (clock : ℕ) (own folder : Path) (stated old left new : HostState) (at : own ≡ folder) (same : stated ≡ old) (last : left ≡ new) where

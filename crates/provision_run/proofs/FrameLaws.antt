@@ -15,7 +15,7 @@ use Rattle.pv_steps.specs.Runs.{after_all, Ran}
 use Rattle.pv_steps.specs.Trees.{Files, IsTree, places}
 use Rattle.provision_run.specs.Framed.{AreAccountsFramed}
 
--- where no step was done, each path is as it was
+-- if no step was done, each path is as it was
 pub none_stays : (now : ℕ) (t : Files) (stated : List Step) (n : ℕ) (q : Path) → object_states_of (places (after_all t (take n (drop (length stated) stated)) now)) q ≡ object_states_of (places t) q
 none_stays now t stated n q = ap (λ (steps : List Step). object_states_of (places (after_all t steps now)) q) (ap (take n) (drop-length stated) ∙ take-nil n)
 

@@ -15,12 +15,14 @@ pub mod ExplainLaws
 pub mod RereadingLaws
 pub mod RunLaws
 pub mod StopsLaws
-pub mod FolderMending
+pub mod FolderRecovery
+pub mod KillMending
 pub mod TaskLaws
 pub mod WrittenLaws
 pub mod TopLaws
 pub mod ClosedLaws
 pub mod FolderLaws
+pub mod AlwaysLaws
 pub mod RootedLaws
 pub mod GeneratedLaws
 mod FrameLaws

@@ -12,7 +12,7 @@ use Rattle.pv_steps.specs.declared.carried.Carried.{Carried}
 use Rattle.pv_steps.specs.declared.carried.Carried.TheVariants.{Whole}
 use Rattle.pv_steps.proofs.CourseLaws.{Going, going_start, going_next, none_left, one_gone, one_within, one_part, partway_start, single_gone, end_whole, end_messages, end_part, end_refused, end_acted, end_gone}
 use Rattle.pv_steps.proofs.CarryingLaws.{refused_passed}
-use Rattle.pv_create.specs.Mended.{IsMended}
+use Rattle.pv_create.specs.Recovery.{Recovers}
 use Rattle.pv_walk.proofs.OperationLaws.{object_states-same}
 use Rattle.pv_laws.proofs.Moments.{created_same}
 use Rattle.pv_laws.proofs.Sets.{impossible}
@@ -20,7 +20,7 @@ use Rattle.pv_steps.specs.Runs.{after_all}
 use Rattle.pv_steps.specs.Same.{Same}
 use Rattle.pv_walk.specs.Edits.{Pruned}
 use Rattle.pv_lines.specs.declared.line.Line.{Line}
-use Rattle.pv_remove.proofs.RunLaws.{removal_mended, purge_mended}
+use Rattle.pv_remove.proofs.RunLaws.{removal_recovered, purge_recovered}
 use Rattle.pv_steps.specs.Acting.{refused, Acted}
 use Rattle.pv_steps.specs.Content.{Removes}
 use Rattle.pv_steps.specs.declared.step.Step.{Step}
@@ -36,8 +36,8 @@ use Rattle.pv_table.specs.Created.{created}
 use Rattle.pv_steps.specs.Doing.{after_each, messages_for_each, one_is_refused, taken_by_each}
 use Rattle.pv_table.specs.Removed.{is_gone, is_purged}
 use Rattle.pv_text.specs.GivenMessages.{MessagesPart}
-use Rattle.provision_run.specs.Booted.{booted, IsBootMended}
-use Rattle.provision_run.specs.Phases.{boot_phases, is_boot, IsMendedBy, is_step_of, left_by, most_steps_of, falls_short, on_way, phase_cut, phase_whole, phases_course, messages_in}
+use Rattle.provision_run.specs.Booted.{booted, BootRecovers}
+use Rattle.provision_run.specs.Phases.{boot_phases, is_boot, RecoversBy, is_step_of, left_by, most_steps_of, falls_short, on_way, phase_cut, phase_whole, phases_course, messages_in}
 use Rattle.provision_run.specs.declared.phase.Phase.{Phase}
 use Rattle.provision_run.specs.declared.phase.Phase.TheVariants.{Remove, Clean, Create, Purge}
 use Rattle.provision_run.proofs.BootLaws.{booted_same}
@@ -52,33 +52,33 @@ phase_start lines now Clean t = pruned-none (is_aged lines now t) t
 phase_start lines now Create t = partway_start (lines_course now) (line_start now) (in_create_order lines) t
 phase_start lines now Purge t = pruned-none (is_purged lines t) t
 
--- a create run that has done nothing is mended
-nothing_mended : (lines : List Line) (now : ℕ) (t : Files) (h : List Step) → IsMended lines now t (drop (length h) h)
-nothing_mended lines now t h n later repeatable quiet again =
+-- a create run that has done nothing recovers
+nothing_recovered : (lines : List Line) (now : ℕ) (t : Files) (h : List Step) → Recovers lines now t (drop (length h) h)
+nothing_recovered lines now t h n later repeatable quiet again =
     let none : take n (drop (length h) h) ≡ [] = ap (take n) (drop-length h) ∙ take-nil n in
     subst (λ (steps : List Step). Same (created lines later (after_all t steps now)) (created lines now t)) (sym none)
     (λ q plain. object_states-same (places (created lines later t)) (places (created lines now t)) q (created_same lines later now t t (λ p. refl) q))
 
 -- of a run of one phase what its stop law says; of several phases nothing
-abbrev pub IsMendedAlone : List Phase → List Line → ℕ → Files → List Step → Type 0
-IsMendedAlone (phase ∷ []) lines now t steps = IsMendedBy (phase ∷ []) lines now t steps
-IsMendedAlone phases lines now t steps = ⊤
+abbrev pub RecoversAlone : List Phase → List Line → ℕ → Files → List Step → Type 0
+RecoversAlone (phase ∷ []) lines now t steps = RecoversBy (phase ∷ []) lines now t steps
+RecoversAlone phases lines now t steps = ⊤
 
 -- ---- the boot command
 
 -- of phases one after the other that are not its own nothing is said
 module _ (lines : List Line) (now : ℕ) (t : Files) (steps : List Step) where
-  pub phases_mend : (phases : List Phase) → is_boot phases ≡ false → IsMendedAlone phases lines now t steps → IsMendedBy phases lines now t steps
-  phases_mend [] e alone = tt
-  phases_mend (phase ∷ []) e alone = alone
-  phases_mend (Remove ∷ Create ∷ []) e alone = impossible (sym e)
-  phases_mend (Remove ∷ Create ∷ more ∷ phases) e alone = tt
-  phases_mend (Remove ∷ Remove ∷ phases) e alone = tt
-  phases_mend (Remove ∷ Clean ∷ phases) e alone = tt
-  phases_mend (Remove ∷ Purge ∷ phases) e alone = tt
-  phases_mend (Clean ∷ more ∷ phases) e alone = tt
-  phases_mend (Create ∷ more ∷ phases) e alone = tt
-  phases_mend (Purge ∷ more ∷ phases) e alone = tt
+  pub phases_recover : (phases : List Phase) → is_boot phases ≡ false → RecoversAlone phases lines now t steps → RecoversBy phases lines now t steps
+  phases_recover [] e alone = tt
+  phases_recover (phase ∷ []) e alone = alone
+  phases_recover (Remove ∷ Create ∷ []) e alone = impossible (sym e)
+  phases_recover (Remove ∷ Create ∷ more ∷ phases) e alone = tt
+  phases_recover (Remove ∷ Remove ∷ phases) e alone = tt
+  phases_recover (Remove ∷ Clean ∷ phases) e alone = tt
+  phases_recover (Remove ∷ Purge ∷ phases) e alone = tt
+  phases_recover (Clean ∷ more ∷ phases) e alone = tt
+  phases_recover (Create ∷ more ∷ phases) e alone = tt
+  phases_recover (Purge ∷ more ∷ phases) e alone = tt
 
 -- the phases of the boot command are these
 pub boot_is : (phases : List Phase) → is_boot phases ≡ true → phases ≡ boot_phases
@@ -93,36 +93,36 @@ boot_is (Clean ∷ phases) e = impossible e
 boot_is (Create ∷ phases) e = impossible e
 boot_is (Purge ∷ phases) e = impossible e
 
--- a run that has done nothing is mended
+-- a run that has done nothing recovers
 module _ (lines : List Line) (now : ℕ) (t : Files) (h : List Step) (fits : now < 2 ^ 64) (tree : IsTree t) where
-  one_none : (phase : Phase) → IsMendedBy (phase ∷ []) lines now t (drop (length h) h)
+  one_none : (phase : Phase) → RecoversBy (phase ∷ []) lines now t (drop (length h) h)
   one_none Remove =
-      removal_mended lines (Removes (is_gone lines t)) now t h t h fits tree
+      removal_recovered lines (Removes (is_gone lines t)) now t h t h fits tree
       (ran_none (Pruned (is_gone lines t) t) (Removes (is_gone lines t)) now t h t h (pruned-none (is_gone lines t) t) refl refl)
   one_none Clean =
       takes_only (is_aged lines now t) t (IsCleanStep (is_aged lines now t) t) now h t h
       (ran_none (Pruned (is_aged lines now t) t) (IsCleanStep (is_aged lines now t) t) now t h t h (pruned-none (is_aged lines now t) t) refl refl)
-  one_none Create = nothing_mended lines now t h
+  one_none Create = nothing_recovered lines now t h
   one_none Purge =
-      purge_mended lines (Removes (is_purged lines t)) now t h t h fits tree
+      purge_recovered lines (Removes (is_purged lines t)) now t h t h fits tree
       (ran_none (Pruned (is_purged lines t) t) (Removes (is_purged lines t)) now t h t h (pruned-none (is_purged lines t) t) refl refl)
 
-  alone_none : (phases : List Phase) → IsMendedAlone phases lines now t (drop (length h) h)
+  alone_none : (phases : List Phase) → RecoversAlone phases lines now t (drop (length h) h)
   alone_none [] = tt
   alone_none (phase ∷ []) = one_none phase
   alone_none (phase ∷ other ∷ phases) = tt
 
-  boot_none : IsBootMended lines now t (drop (length h) h)
+  boot_none : BootRecovers lines now t (drop (length h) h)
   boot_none n later repeatable copies whole quiet again =
       let none : take n (drop (length h) h) ≡ [] = ap (take n) (drop-length h) ∙ take-nil n in
       subst (λ (steps : List Step). Same (booted lines later (after_all t steps now)) (booted lines now t)) (sym none) (booted_same lines later now t)
 
-  pub none_mended : (phases : List Phase) → IsMendedBy phases lines now t (drop (length h) h)
-  none_mended phases = by (is_boot phases) refl
+  pub none_recovered : (phases : List Phase) → RecoversBy phases lines now t (drop (length h) h)
+  none_recovered phases = by (is_boot phases) refl
     where
-      by : (b : Bool) → is_boot phases ≡ b → IsMendedBy phases lines now t (drop (length h) h)
-      by true e = subst (λ (ps : List Phase). IsMendedBy ps lines now t (drop (length h) h)) (sym (boot_is phases e)) boot_none
-      by false e = phases_mend lines now t (drop (length h) h) phases e (alone_none phases)
+      by : (b : Bool) → is_boot phases ≡ b → RecoversBy phases lines now t (drop (length h) h)
+      by true e = subst (λ (ps : List Phase). RecoversBy ps lines now t (drop (length h) h)) (sym (boot_is phases e)) boot_none
+      by false e = phases_recover lines now t (drop (length h) h) phases e (alone_none phases)
 
 -- ---- a phase that was cut short
 
@@ -149,16 +149,16 @@ module _ {S : Type 0} (tree : Ghosts S) (lines : List Line) (now : ℕ) (phase :
 
 -- ---- some phases are done
 
--- the first phase begins where the run began, and the stop law holds so far
-pub record Mending {S : Type 0} (tree : Ghosts S) (lines : List Line) (now : ℕ) (all : List Phase) (i : ℕ) (a b : S) : Type 0 where
+-- the first phase begins where the run began, and crash safety holds so far
+pub record Recovering {S : Type 0} (tree : Ghosts S) (lines : List Line) (now : ℕ) (all : List Phase) (i : ℕ) (a b : S) : Type 0 where
   pub still : i ≡ 0 → b ≡ a
-  pub law : IsMendedAlone all lines now (tree.state a) (drop (length (tree.steps a)) (tree.steps b))
+  pub law : RecoversAlone all lines now (tree.state a) (drop (length (tree.steps a)) (tree.steps b))
 
 pub record OnPhases {S : Type 0} (tree : Ghosts S) (lines : List Line) (now : ℕ) (all : List Phase) (i : ℕ) (carried : Carried) (a b : S) (old new : List (List ℕ)) : Type 0 where
   pub refused : Bool
   pub ended : carried ≡ carried_of refused
   pub going : Going (phases_course lines now) tree all (drop i all) now refused a b old new
-  pub mending : Mending tree lines now all i a b
+  pub recovering : Recovering tree lines now all i a b
 
 module _ {S : Type 0} (tree : Ghosts S) (moves : Moves tree) (lines : List Line) (now : ℕ) (all : List Phase) (a : S) (old : List (List ℕ)) where
   abbrev t : Files
@@ -172,7 +172,7 @@ module _ {S : Type 0} (tree : Ghosts S) (moves : Moves tree) (lines : List Line)
     refused = false;
     ended = refl;
     going = going_start (phases_course lines now) tree moves start all now a old;
-    mending = record { still = λ none. refl; law = alone_none lines now t (tree.steps a) fits is all };
+    recovering = record { still = λ none. refl; law = alone_none lines now t (tree.steps a) fits is all };
   }
 
   -- ---- one more
@@ -200,28 +200,28 @@ module _ {S : Type 0} (tree : Ghosts S) (moves : Moves tree) (lines : List Line)
         subst (λ n. HasGone tree (Cut (phases_course lines now) now n all t) now a d old new_messages) (refused_passed q r was passed)
         (one_gone (phases_course lines now) tree moves start all now a old rest phase run.refused b new going (refused q) d new_messages one)
 
-    pub phases_mended : (d : S) → IsMendedBy (phase ∷ []) lines now (tree.state b) (drop (length (tree.steps b)) (tree.steps d)) → IsMendedAlone all lines now t (drop (length (tree.steps a)) (tree.steps d))
-    phases_mended d one = by all i within is run.mending.still
+    pub phases_recovered : (d : S) → RecoversBy (phase ∷ []) lines now (tree.state b) (drop (length (tree.steps b)) (tree.steps d)) → RecoversAlone all lines now t (drop (length (tree.steps a)) (tree.steps d))
+    phases_recovered d one = by all i within is run.recovering.still
       where
-        by : (phases : List Phase) (j : ℕ) → j < length phases → phase ≡ get_or phases j phase → (j ≡ 0 → b ≡ a) → IsMendedAlone phases lines now t (drop (length (tree.steps a)) (tree.steps d))
+        by : (phases : List Phase) (j : ℕ) → j < length phases → phase ≡ get_or phases j phase → (j ≡ 0 → b ≡ a) → RecoversAlone phases lines now t (drop (length (tree.steps a)) (tree.steps d))
         by [] j in_it at still = tt
         by (p ∷ []) zero in_it at still =
-            subst (λ (x : Phase). IsMendedBy (x ∷ []) lines now t (drop (length (tree.steps a)) (tree.steps d))) at
-            (subst (λ (x : S). IsMendedBy (phase ∷ []) lines now (tree.state x) (drop (length (tree.steps x)) (tree.steps d))) (still refl) one)
+            subst (λ (x : Phase). RecoversBy (x ∷ []) lines now t (drop (length (tree.steps a)) (tree.steps d))) at
+            (subst (λ (x : S). RecoversBy (phase ∷ []) lines now (tree.state x) (drop (length (tree.steps x)) (tree.steps d))) (still refl) one)
         by (p ∷ []) (suc j) in_it at still = absurd (omega (arith, in_it))
         by (p ∷ q ∷ phases) j in_it at still = tt
 
     pub phases_next : {B : Type 0} (d : S) {y : B} (new_messages : List (List ℕ)) (ended : Carried) → tree.state d ≡ left_by lines now phase (tree.state b) → new_messages ≡ new ++ messages_in lines now phase (tree.state b)
         → Acted tree (on_way lines now phase (tree.state b)) (is_step_of lines now phase (tree.state b)) (most_steps_of lines now phase (tree.state b)) now b d (Ok y)
         → HasGone tree (phase_cut lines now 0 phase (tree.state b)) now b d new new_messages
-        → IsMendedBy (phase ∷ []) lines now (tree.state b) (drop (length (tree.steps b)) (tree.steps d))
+        → RecoversBy (phase ∷ []) lines now (tree.state b) (drop (length (tree.steps b)) (tree.steps d))
         → ((yet : Bool) → carried ≡ carried_of yet → ended ≡ carried_of (yet || falls_short lines now phase (tree.state b)))
         → OnPhases tree lines now all (i + 1) ended a d old new_messages
     phases_next d {y} new_messages ended done says one gone law counts = record {
       refused = run.refused || falls_short lines now phase (tree.state b);
       ended = counts run.refused run.ended;
       going = going_next (phases_course lines now) tree moves start all now a old rest phase run.refused b new going d {y = y} new_messages done says one gone;
-      mending = record { still = λ none. absurd (omega (arith, none)); law = phases_mended d law };
+      recovering = record { still = λ none. absurd (omega (arith, none)); law = phases_recovered d law };
     }
 
   -- ---- all are done

@@ -1,5 +1,5 @@
 -- A run of phases, none of whose lines may change what lines are read from, stopped after any of its steps, has left a tree of
--- which the same lines are read, so that a whole run from there mends it.
+-- which the same lines are read, so that a complete run from there completes it.
 use Rattle.std.specs.Prelude.{◌^◌, ◌<◌, ◌≡◌, ℕ, List, [], ◌∷◌, length, take, drop}
 use Rattle.std.proofs.Common.{sym, ap, subst, ◌∙◌}
 use Rattle.std.proofs.Math.Seq.{drop-append_seam, drop-length, take-nil}
@@ -10,7 +10,7 @@ use Rattle.pv_read_config.proofs.InputLaws.{configured-same}
 use Rattle.pv_steps.specs.Courses.{Partway, IsStepOfSome}
 use Rattle.pv_lines.specs.declared.line.Line.{Line}
 use Rattle.pv_lines.specs.Lines.{IsLine}
-use Rattle.provision_run.specs.Phases.{IsMendedBy, phases_course, phases_of}
+use Rattle.provision_run.specs.Phases.{RecoversBy, phases_course, phases_of}
 use Rattle.provision_run.proofs.InputLaws.{phases_leave_input}
 use Rattle.provision_run.proofs.PhaseLaws.{both}
 use Rattle.provision_run.specs.declared.phase.Phase.{Phase}
@@ -25,7 +25,7 @@ use Rattle.pv_table.specs.Active.{active}
 use Rattle.pv_steps.specs.Doing.{after_each}
 use Rattle.pv_text.specs.Facts.{Values}
 use Rattle.pv_words.specs.declared.options.Options.{Options}
-use Rattle.provision_run.specs.Rereading.{IsMendedAnew, IsReread, LeaveInput, MayMend, MayRepeat}
+use Rattle.provision_run.specs.Rereading.{RecoversAnew, IsReread, LeaveInput, MayRecover, MayRepeat}
 use Rattle.provision_run.specs.Phased.{is_phases_step, phases_way, run_lines}
 use Rattle.pv_path.proofs.Tests.{all_take}
 
@@ -48,25 +48,25 @@ leaves_input (Purge ∷ next ∷ phases) lines may = absurd may
 leaves_input (Create ∷ next ∷ phases) lines may = absurd may
 leaves_input (Clean ∷ phases) lines may = absurd may
 
--- a run of the same lines mends what a stopped one has left
+-- a run of the same lines completes what a stopped one has left
 module _ (lines : List Line) (moment : ℕ) (t : Files) (steps : List Step) (n later : ℕ) where
   abbrev left_then : Files
   left_then = after_all t (take n steps) moment
 
-  same_lines_mend : (phases : List Phase) → IsMendedBy phases lines moment t steps → MayMend phases lines moment t later left_then
+  same_lines_recover : (phases : List Phase) → RecoversBy phases lines moment t steps → MayRecover phases lines moment t later left_then
       → Same (after_each (phases_course lines later).whole phases left_then) (after_each (phases_course lines moment).whole phases t)
-  same_lines_mend (Remove ∷ []) law may = law n later
-  same_lines_mend (Purge ∷ []) law may = law n later
-  same_lines_mend (Create ∷ []) law may = law n later may.0 may.1.1.0 may.1.1.1
-  same_lines_mend (Remove ∷ Create ∷ []) law may = law n later may.0.0 may.0.1 may.1.0 may.1.1.0 may.1.1.1
-  same_lines_mend [] law may = absurd may.0
-  same_lines_mend (Remove ∷ Create ∷ next ∷ phases) law may = absurd may.0
-  same_lines_mend (Remove ∷ Remove ∷ phases) law may = absurd may.0
-  same_lines_mend (Remove ∷ Clean ∷ phases) law may = absurd may.0
-  same_lines_mend (Remove ∷ Purge ∷ phases) law may = absurd may.0
-  same_lines_mend (Purge ∷ next ∷ phases) law may = absurd may.0
-  same_lines_mend (Create ∷ next ∷ phases) law may = absurd may.0
-  same_lines_mend (Clean ∷ phases) law may = absurd may.0
+  same_lines_recover (Remove ∷ []) law may = law n later
+  same_lines_recover (Purge ∷ []) law may = law n later
+  same_lines_recover (Create ∷ []) law may = law n later may.0 may.1.1.0 may.1.1.1
+  same_lines_recover (Remove ∷ Create ∷ []) law may = law n later may.0.0 may.0.1 may.1.0 may.1.1.0 may.1.1.1
+  same_lines_recover [] law may = absurd may.0
+  same_lines_recover (Remove ∷ Create ∷ next ∷ phases) law may = absurd may.0
+  same_lines_recover (Remove ∷ Remove ∷ phases) law may = absurd may.0
+  same_lines_recover (Remove ∷ Clean ∷ phases) law may = absurd may.0
+  same_lines_recover (Remove ∷ Purge ∷ phases) law may = absurd may.0
+  same_lines_recover (Purge ∷ next ∷ phases) law may = absurd may.0
+  same_lines_recover (Create ∷ next ∷ phases) law may = absurd may.0
+  same_lines_recover (Clean ∷ phases) law may = absurd may.0
 
 module _ (options : Options) (facts : Values) (moment : ℕ) (t : Files) where
   module _ (fits : moment < 2 ^ 64) (tree : IsTree t) (are : AllByRecursion IsLine (run_lines options facts t)) where
@@ -87,15 +87,15 @@ module _ (options : Options) (facts : Values) (moment : ℕ) (t : Files) where
   nothing_reread h n plain free =
       ap (λ (steps : List Step). configured (after_all t steps moment) facts options.words) (ap (take n) (drop-length h) ∙ take-nil n)
 
-  -- what is mended by a run of the same lines is mended by one that reads them anew
-  pub mended_anew : (steps : List Step) → IsReread options facts moment t steps → IsMendedBy (phases_of options) (run_lines options facts t) moment t steps
-      → IsMendedAnew options facts moment t steps
-  mended_anew steps again mended n later plain may =
+  -- what recovers by a run of the same lines recovers by one that reads them anew
+  pub recovered_anew : (steps : List Step) → IsReread options facts moment t steps → RecoversBy (phases_of options) (run_lines options facts t) moment t steps
+      → RecoversAnew options facts moment t steps
+  recovered_anew steps again recovers n later plain may =
       let left = after_all t (take n steps) moment in
       let phases = phases_of options in
       subst (λ (lines : List Line). Same (after_each (phases_course lines later).whole phases left) (after_each (phases_course (run_lines options facts t) moment).whole phases t))
       (sym (lines_reread options facts t left (again n plain (leaves_input phases (run_lines options facts t) may.0))))
-      (same_lines_mend (run_lines options facts t) moment t steps n later phases mended may)
+      (same_lines_recover (run_lines options facts t) moment t steps n later phases recovers may)
 
   -- so a run of the phases that are asked for, over the lines that it has read
   module _ (fits : moment < 2 ^ 64) (lines : List Line) (e : lines ≡ run_lines options facts t) (phases : List Phase) (f : phases ≡ phases_of options) (are : AllByRecursion IsLine lines) (tree : IsTree t)
@@ -104,5 +104,5 @@ module _ (options : Options) (facts : Values) (moment : ℕ) (t : Files) where
     run_reread = reread fits tree (subst (AllByRecursion IsLine) e are) h u k
         (both (λ (ls : List Line) (ps : List Phase). Ran (Partway (phases_course ls moment) ps t) (IsStepOfSome (phases_course ls moment) ps t) moment t h u k) e f run)
 
-    pub run_anew : IsMendedBy phases lines moment t (drop (length h) k) → IsMendedAnew options facts moment t (drop (length h) k)
-    run_anew mended = mended_anew (drop (length h) k) run_reread (both (λ (ls : List Line) (ps : List Phase). IsMendedBy ps ls moment t (drop (length h) k)) e f mended)
+    pub run_anew : RecoversBy phases lines moment t (drop (length h) k) → RecoversAnew options facts moment t (drop (length h) k)
+    run_anew recovers = recovered_anew (drop (length h) k) run_reread (both (λ (ls : List Line) (ps : List Phase). RecoversBy ps ls moment t (drop (length h) k)) e f recovers)

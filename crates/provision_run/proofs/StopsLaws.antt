@@ -1,9 +1,9 @@
--- Runs that were stopped, one or more, each over what the last one left, are mended by a whole run.
+-- Runs that were stopped, one or more, each over what the last one left, recover by a complete run.
 use Rattle.std.specs.Prelude.{◌≡◌, ℕ, List, [], ◌∷◌, length, take, Option}
 use Rattle.std.proofs.Common.{refl, sym, ap, subst, ◌∙◌}
 use Rattle.std.proofs.Math.Seq.{take-length}
 use Rattle.pv_sysusers.specs.Accounted.{accounted, day_of}
-use Rattle.pv_sysusers.specs.Mended.{EndAlike}
+use Rattle.pv_sysusers.specs.Recovery.{EndAlike}
 use Rattle.pv_image.specs.Images.{IsImage}
 use Rattle.pv_image.proofs.ImageLaws.{one_image}
 use Rattle.pv_laws.proofs.Moments.{quiet_same}
@@ -30,10 +30,10 @@ use Rattle.provision_run.specs.Accounts.{run_requests}
 use Rattle.provision_run.specs.Answers.{HasOutputBy, IsAnswer, IsAnswered, IsRun}
 use Rattle.provision_run.specs.OverTree.{HasLeft, HasRun, IsStopped, IsWhole, outcome_of}
 use Rattle.provision_run.specs.Phased.{phased, run_lines}
-use Rattle.provision_run.specs.Rereading.{AreAccountsMendedAnew, AreRequestsReread, ArePlain, ArePlainRequests, IsMendedAnew, IsQuietBy, IsReread, MayMend, MayRepeat}
+use Rattle.provision_run.specs.Rereading.{AccountsRecoverAnew, AreRequestsReread, ArePlain, ArePlainRequests, RecoversAnew, IsQuietBy, IsReread, MayRecover, MayRepeat}
 use Rattle.provision_run.specs.Stops.{AreImages, EndAlikeAfter, HasEndedOver, HasStopped, HasStoppedOver, HaveStopped, HaveStoppedOver, IsCalm, IsCalmOver, unlimited}
 use Rattle.provision_run.specs.Tasks.{task_of}
-use Rattle.provision_run.specs.Whole.{final, final_by, IsMendedAnewIn}
+use Rattle.provision_run.specs.Whole.{final, final_by, RecoversAnewIn}
 use Rattle.provision_run.specs.Words.{moment_of}
 use Rattle.provision_run.proofs.RereadingLaws.{leaves_input, lines_reread}
 
@@ -60,9 +60,9 @@ quiet_by (Purge ∷ phases) lines now later t quiet = tt
 
 module _ (options : Options) (facts : Values) where
   -- what the law for one stop asks, where the same lines are read
-  may_mend : (moment later : ℕ) (t u : Files) → run_lines options facts u ≡ run_lines options facts t → MayRepeat (phases_of options) (run_lines options facts t) → IsCalm options facts t → IsCalm options facts u
-      → MayMend (phases_of options) (run_lines options facts t) moment t later u
-  may_mend moment later t u same may calm still = (
+  may_recover : (moment later : ℕ) (t u : Files) → run_lines options facts u ≡ run_lines options facts t → MayRepeat (phases_of options) (run_lines options facts t) → IsCalm options facts t → IsCalm options facts u
+      → MayRecover (phases_of options) (run_lines options facts t) moment t later u
+  may_recover moment later t u same may calm still = (
     may,
     (
       calm.0,
@@ -75,9 +75,9 @@ module _ (options : Options) (facts : Values) where
 
   module _ (plain : ArePlain options) (is : task_of options ≡ Phases) where
     module _ (moment : ℕ) (t v : Files) (may : MayRepeat (phases_of options) (run_lines options facts t)) (stop : HasStopped options facts moment t v) where
-      stated : IsReread options facts moment t stop.steps × IsMendedAnew options facts moment t stop.steps
-      unfolding IsMendedAnewIn
-      stated = subst (λ (task : Task). IsMendedAnewIn task options facts moment t stop.steps) is stop.anew
+      stated : IsReread options facts moment t stop.steps × RecoversAnew options facts moment t stop.steps
+      unfolding RecoversAnewIn
+      stated = subst (λ (task : Task). RecoversAnewIn task options facts moment t stop.steps) is stop.anew
 
       kept_at : (n : ℕ) → run_lines options facts (after_all t (take n stop.steps) moment) ≡ run_lines options facts t
       kept_at n = lines_reread options facts t (after_all t (take n stop.steps) moment) (stated.0 n plain (leaves_input (phases_of options) (run_lines options facts t) may))
@@ -85,27 +85,27 @@ module _ (options : Options) (facts : Values) where
       lines_kept : run_lines options facts v ≡ run_lines options facts t
       lines_kept = ap (λ (w : Files). run_lines options facts w) stop.left ∙ kept_at stop.count
 
-      one_mended : IsCalm options facts t → IsCalm options facts v → (later : ℕ) → Same (phased options facts later v) (phased options facts moment t)
-      one_mended calm still later =
+      one_recovered : IsCalm options facts t → IsCalm options facts v → (later : ℕ) → Same (phased options facts later v) (phased options facts moment t)
+      one_recovered calm still later =
           subst (λ (w : Files). Same (phased options facts later w) (phased options facts moment t)) (sym stop.left)
           (stated.1 stop.count later plain
-          (may_mend moment later t (after_all t (take stop.count stop.steps) moment) (kept_at stop.count) may calm (subst (IsCalm options facts) stop.left still)))
+          (may_recover moment later t (after_all t (take stop.count stop.steps) moment) (kept_at stop.count) may calm (subst (IsCalm options facts) stop.left still)))
 
       -- a run needs no moment
       any_moment : IsCalm options facts t → (first : ℕ) → Same (phased options facts first t) (phased options facts moment t)
       any_moment calm first =
           let none = none_done t stop.steps moment in
           subst (λ (w : Files). Same (phased options facts first w) (phased options facts moment t)) none
-          (stated.1 0 first plain (may_mend moment first t (after_all t (take 0 stop.steps) moment) (kept_at 0) may calm (subst (IsCalm options facts) (sym none) calm)))
+          (stated.1 0 first plain (may_recover moment first t (after_all t (take 0 stop.steps) moment) (kept_at 0) may calm (subst (IsCalm options facts) (sym none) calm)))
 
-    pub phases_mended : (moments : List ℕ) (moment first later : ℕ) (t u : Files) → MayRepeat (phases_of options) (run_lines options facts t) → HaveStopped options facts (moment ∷ moments) t u → IsCalm options facts u
+    pub phases_recovered : (moments : List ℕ) (moment first later : ℕ) (t u : Files) → MayRepeat (phases_of options) (run_lines options facts t) → HaveStopped options facts (moment ∷ moments) t u → IsCalm options facts u
         → Same (phased options facts later u) (phased options facts first t)
-    phases_mended [] moment first later t u may (calm, (v, (stop, is_v))) still =
+    phases_recovered [] moment first later t u may (calm, (v, (stop, is_v))) still =
         subst (λ (w : Files). Same (phased options facts later w) (phased options facts first t)) (sym is_v) (λ q object_state.
-        one_mended moment t v may stop calm (subst (IsCalm options facts) is_v still) later q object_state ∙ sym (any_moment moment t v may stop calm first q object_state))
-    phases_mended (next ∷ moments) moment first later t u may (calm, (v, (stop, more))) still = λ q object_state.
-        phases_mended moments next next later v u (subst (MayRepeat (phases_of options)) (sym (lines_kept moment t v may stop)) may) more still q object_state
-        ∙ one_mended moment t v may stop calm more.0 next q object_state ∙ sym (any_moment moment t v may stop calm first q object_state)
+        one_recovered moment t v may stop calm (subst (IsCalm options facts) is_v still) later q object_state ∙ sym (any_moment moment t v may stop calm first q object_state))
+    phases_recovered (next ∷ moments) moment first later t u may (calm, (v, (stop, more))) still = λ q object_state.
+        phases_recovered moments next next later v u (subst (MayRepeat (phases_of options)) (sym (lines_kept moment t v may stop)) may) more still q object_state
+        ∙ one_recovered moment t v may stop calm more.0 next q object_state ∙ sym (any_moment moment t v may stop calm first q object_state)
 
 -- ---- accounts, over trees
 
@@ -115,9 +115,9 @@ module _ (options : Options) (facts : Values) (plain : ArePlainRequests options)
   left_at moment t = accounted (run_requests options facts t) moment t
 
   module _ (moment : ℕ) (t v : Files) (stop : HasStopped options facts moment t v) where
-    ends_told : AreRequestsReread options facts moment t stop.steps × AreAccountsMendedAnew options facts moment t stop.steps
-    unfolding IsMendedAnewIn
-    ends_told = subst (λ (task : Task). IsMendedAnewIn task options facts moment t stop.steps) is stop.anew
+    ends_told : AreRequestsReread options facts moment t stop.steps × AccountsRecoverAnew options facts moment t stop.steps
+    unfolding RecoversAnewIn
+    ends_told = subst (λ (task : Task). RecoversAnewIn task options facts moment t stop.steps) is stop.anew
 
     one_alike : (later : ℕ) → EndAlike moment later (left_at moment t) (left_at later v)
     one_alike later = subst (λ (w : Files). EndAlike moment later (left_at moment t) (left_at later w)) (sym stop.left) (ends_told.1 stop.count later plain)
@@ -153,8 +153,8 @@ module _ (options : Options) (facts : Values) (plain : ArePlainRequests options)
 -- ---- over bytes
 
 -- neither the limit nor the moment of options counts
-anew_unlimited : (task : Task) (options : Options) (facts : Values) (moment : ℕ) (t : Files) (steps : List Step) → IsMendedAnewIn task options facts moment t steps → IsMendedAnewIn task (unlimited options) facts moment t steps
-unfolding IsMendedAnewIn
+anew_unlimited : (task : Task) (options : Options) (facts : Values) (moment : ℕ) (t : Files) (steps : List Step) → RecoversAnewIn task options facts moment t steps → RecoversAnewIn task (unlimited options) facts moment t steps
+unfolding RecoversAnewIn
 anew_unlimited Phases options facts moment t steps h = h
 anew_unlimited Report options facts moment t steps h = h
 anew_unlimited Explain options facts moment t steps h = h
@@ -167,15 +167,26 @@ final_unlimited Report options facts moment t = refl
 final_unlimited Explain options facts moment t = refl
 final_unlimited Accounts options facts moment t = refl
 
--- a run that was broken off, by options that are these but for the limit and the moment
+-- a run that was broken off, by options that are these except for the limit and the moment
 pub broken_by : (options own : Options) → unlimited own ≡ unlimited options → (facts : Values) (moment : ℕ) (t left : Files)
     → HasLeft own facts moment t left → HasStopped (unlimited options) facts moment t left
 broken_by options own alike facts moment t left gone = record {
   steps = gone.steps;
-  anew = subst (λ (o : Options). IsMendedAnewIn (task_of o) o facts moment t gone.steps) alike
+  anew = subst (λ (o : Options). RecoversAnewIn (task_of o) o facts moment t gone.steps) alike
       (anew_unlimited (task_of own) own facts moment t gone.steps gone.anew);
   count = length gone.steps;
   left = gone.reached ∙ ap (λ (steps : List Step). after_all t steps moment) (sym (take-length gone.steps));
+}
+
+-- and after any number of its steps
+pub broken_at : (options own : Options) → unlimited own ≡ unlimited options → (facts : Values) (moment : ℕ) (t left : Files)
+    → (gone : HasLeft own facts moment t left) (n : ℕ) → HasStopped (unlimited options) facts moment t (after_all t (take n gone.steps) moment)
+broken_at options own alike facts moment t left gone n = record {
+  steps = gone.steps;
+  anew = subst (λ (o : Options). RecoversAnewIn (task_of o) o facts moment t gone.steps) alike
+      (anew_unlimited (task_of own) own facts moment t gone.steps gone.anew);
+  count = n;
+  left = refl;
 }
 
 -- one that was stopped
@@ -220,7 +231,7 @@ module _ (options : Options) where
         (answered_here.again, stopped_by options over.like.own over.like.alike facts moment t over.count answered_here.messages answered_here.left answered_here.run),
       )
 
-    -- the output of one that was not stopped is an image of the tree that a whole run leaves
+    -- the output of one that was not stopped is an image of the tree that a complete run leaves
     ended_image : (out : List ℕ) → HasEndedOver options moment input out → IsImage out facts (final (unlimited options) facts moment t)
     ended_image out over =
         subst (λ (v : Files). IsImage out facts v) (left_by options over.like.own over.like.alike facts moment t over.end here.messages here.left here.run) here.again
@@ -269,7 +280,7 @@ module _ (options : Options) where
     unfolding final_by
     phases_over is plain may calm = both_images (λ one two. Same two one)
         (subst (λ (task : Task). Same (final_by task (unlimited options) facts later chain.0) (final_by task (unlimited options) facts first t)) (sym is)
-        (phases_mended (unlimited options) facts plain is moments moment first later t chain.0 may chain.1.1 (calm facts chain.0 chain.1.0)))
+        (phases_recovered (unlimited options) facts plain is moments moment first later t chain.0 may chain.1.1 (calm facts chain.0 chain.1.0)))
 
     pub accounts_over : task_of options ≡ Accounts → ArePlainRequests options → AreImages (EndAlikeAfter first (later ∷ moment ∷ moments)) out again
     unfolding final_by

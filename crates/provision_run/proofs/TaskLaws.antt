@@ -4,12 +4,12 @@ use Rattle.std.proofs.Common.{zero, suc, refl, sym, ap, subst, ◌∙◌, inl, i
 use Rattle.std.proofs.Math.Seq.{drop-append_seam, drop-length, take-length}
 use Rattle.pv_sysusers.specs.Accounted.{accounted}
 use Rattle.pv_sysusers.specs.FileWriting.{AccountWay, IsAccountStep}
-use Rattle.pv_sysusers.specs.Mended as accounts
+use Rattle.pv_sysusers.specs.Recovery as accounts
 use Rattle.pv_sysusers.specs.Swept as swept
 use Rattle.pv_create.specs.OnTheWay.{IsFramed}
 use Rattle.provision_run.specs.PhasesOnTheWay.{GiveBy, IsBetweenBy}
 use Rattle.pv_steps.specs.Courses.{HasGone}
-use Rattle.provision_run.specs.Phases.{IsMendedBy, phases_of}
+use Rattle.provision_run.specs.Phases.{RecoversBy, phases_of}
 use Rattle.provision_run.specs.PhasesSwept.{IsSweptBy}
 use Rattle.pv_steps.specs.Acting.{Acted, refused}
 use Rattle.pv_steps.specs.declared.step.Step.{Step}
@@ -31,20 +31,20 @@ use Rattle.provision_run.specs.Framed.{AreAccountsFramed, IsFramedIn}
 use Rattle.provision_run.specs.OnTheWay.{IsOnTheWayIn}
 use Rattle.provision_run.specs.Phased.{is_phases_step, lines_messages, phase_messages, phased, phases_cut, phases_end, phases_way, phases_work, run_lines}
 use Rattle.provision_run.specs.Reported.{HasReported, HasReportedPart, report_end}
-use Rattle.provision_run.specs.Rereading.{AreAccountsMendedAnew, AreRequestsReread, IsMendedAnew, IsReread}
+use Rattle.provision_run.specs.Rereading.{AccountsRecoverAnew, AreRequestsReread, RecoversAnew, IsReread}
 use Rattle.provision_run.specs.Swept.{IsSweptIn}
 use Rattle.provision_run.specs.Tasks.{task_by, task_of}
-use Rattle.provision_run.specs.Whole.{end_by, final_by, HasMessagesBy, HasMessagesPartBy, HasGoneBy, IsMendedAnewIn, IsMendedIn, AreMessagesBy, IsCutBy, is_step_by, read_by, way_by, work_by}
+use Rattle.provision_run.specs.Whole.{end_by, final_by, HasMessagesBy, HasMessagesPartBy, HasGoneBy, RecoversAnewIn, RecoversIn, AreMessagesBy, IsCutBy, is_step_by, read_by, way_by, work_by}
 use Rattle.pv_path.proofs.Tests.{on_ok}
 use Rattle.pv_text.proofs.MessagesLaws.{front_of}
 
--- what follows a part of a list in a front part of the whole is a front part of the rest
+-- what follows a part of a list in a prefix of the whole is a prefix of the rest
 after_front : (a b s : List (List ℕ)) (n : ℕ) → a ++ s ≡ take n (a ++ b) → (k : ℕ) × (s ≡ take k b)
 after_front [] b s n e = (n, e)
 after_front (x ∷ a) b s zero e = absurd cc
 after_front (x ∷ a) b s (suc n) e = let rest : a ++ s ≡ take n (a ++ b) = cc in after_front a b s n rest
 
--- what is said where a step was refused is a front part of what is said in all
+-- what is said where a step was refused is a prefix of what is said in all
 pub front_by : (asked : Task) (options : Options) (facts : Values) (moment : ℕ) (t : Files) (steps : List Step) (new_messages new : List (List ℕ)) → IsCutBy asked options facts moment 1 t steps new_messages
     → new ≡ read_by asked options facts t ++ new_messages → HasMessagesPartBy asked options facts moment t [] new
     → (whole : List (List ℕ)) × (AreMessagesBy asked options facts moment t whole × ((k : ℕ) × (new_messages ≡ take k whole)))
@@ -100,13 +100,13 @@ module _ (options : Options) (facts : Values) (moment : ℕ) (t : Files) where
       → OnOk r (HasGoneBy k options facts moment 0 t (drop (length (tree.steps a)) (tree.steps b)) old new)
   phases_gone_ok tree k is r a b old new h = on_ok r {Y = HasGoneBy k options facts moment 0 t (drop (length (tree.steps a)) (tree.steps b)) old new} (phases_gone tree k is 0 a b old new) h
 
-  pub phases_mended : (k : Task) → Phases ≡ k → (steps : List Step) → IsMendedBy (phases_of options) (run_lines options facts t) moment t steps → IsMendedIn k options facts moment t steps
-  unfolding IsMendedIn
-  phases_mended k is steps h = subst (λ (j : Task). IsMendedIn j options facts moment t steps) is h
+  pub phases_recovered : (k : Task) → Phases ≡ k → (steps : List Step) → RecoversBy (phases_of options) (run_lines options facts t) moment t steps → RecoversIn k options facts moment t steps
+  unfolding RecoversIn
+  phases_recovered k is steps h = subst (λ (j : Task). RecoversIn j options facts moment t steps) is h
 
-  pub phases_anew : (k : Task) → Phases ≡ k → (steps : List Step) → IsReread options facts moment t steps → IsMendedAnew options facts moment t steps → IsMendedAnewIn k options facts moment t steps
-  unfolding IsMendedAnewIn
-  phases_anew k is steps same h = subst (λ (j : Task). IsMendedAnewIn j options facts moment t steps) is (same, h)
+  pub phases_anew : (k : Task) → Phases ≡ k → (steps : List Step) → IsReread options facts moment t steps → RecoversAnew options facts moment t steps → RecoversAnewIn k options facts moment t steps
+  unfolding RecoversAnewIn
+  phases_anew k is steps same h = subst (λ (j : Task). RecoversAnewIn j options facts moment t steps) is (same, h)
 
   pub phases_framed : (k : Task) → Phases ≡ k → (steps : List Step) → IsFramed (run_lines options facts t) moment t steps → IsFramedIn k options facts moment t steps
   unfolding IsFramedIn
@@ -154,13 +154,13 @@ module _ (options : Options) (facts : Values) (moment : ℕ) (t : Files) where
       → OnOk r (HasGoneBy k options facts moment 0 t steps old new)
   accounts_gone_ok k is r steps old new h = on_ok r {Y = HasGoneBy k options facts moment 0 t steps old new} (accounts_gone k is 0 steps old new) h
 
-  pub accounts_mended : (k : Task) → Accounts ≡ k → (steps : List Step) → accounts.IsMended (run_requests options facts t) moment t steps → IsMendedIn k options facts moment t steps
-  unfolding IsMendedIn
-  accounts_mended k is steps h = subst (λ (j : Task). IsMendedIn j options facts moment t steps) is h
+  pub accounts_recovered : (k : Task) → Accounts ≡ k → (steps : List Step) → accounts.Recovers (run_requests options facts t) moment t steps → RecoversIn k options facts moment t steps
+  unfolding RecoversIn
+  accounts_recovered k is steps h = subst (λ (j : Task). RecoversIn j options facts moment t steps) is h
 
-  pub accounts_anew : (k : Task) → Accounts ≡ k → (steps : List Step) → AreRequestsReread options facts moment t steps → AreAccountsMendedAnew options facts moment t steps → IsMendedAnewIn k options facts moment t steps
-  unfolding IsMendedAnewIn
-  accounts_anew k is steps same h = subst (λ (j : Task). IsMendedAnewIn j options facts moment t steps) is (same, h)
+  pub accounts_anew : (k : Task) → Accounts ≡ k → (steps : List Step) → AreRequestsReread options facts moment t steps → AccountsRecoverAnew options facts moment t steps → RecoversAnewIn k options facts moment t steps
+  unfolding RecoversAnewIn
+  accounts_anew k is steps same h = subst (λ (j : Task). RecoversAnewIn j options facts moment t steps) is (same, h)
 
   pub accounts_framed : (k : Task) → Accounts ≡ k → (steps : List Step) → AreAccountsFramed moment t steps → IsFramedIn k options facts moment t steps
   unfolding IsFramedIn
@@ -197,13 +197,13 @@ module _ (options : Options) (facts : Values) (moment : ℕ) (t : Files) where
   unfolding AreMessagesBy read_by
   report_part k is old new h = subst (λ (j : Task). HasMessagesPartBy j options facts moment t old new) is h
 
-  pub report_mended : (k : Task) → Report ≡ k → (stated : List Step) → IsMendedIn k options facts moment t (drop (length stated) stated)
-  unfolding IsMendedIn
-  report_mended k is stated = subst (λ (j : Task). IsMendedIn j options facts moment t (drop (length stated) stated)) is (drop-length stated)
+  pub report_recovered : (k : Task) → Report ≡ k → (stated : List Step) → RecoversIn k options facts moment t (drop (length stated) stated)
+  unfolding RecoversIn
+  report_recovered k is stated = subst (λ (j : Task). RecoversIn j options facts moment t (drop (length stated) stated)) is (drop-length stated)
 
-  pub report_anew : (k : Task) → Report ≡ k → (steps : List Step) → IsMendedAnewIn k options facts moment t steps
-  unfolding IsMendedAnewIn
-  report_anew k is steps = subst (λ (j : Task). IsMendedAnewIn j options facts moment t steps) is tt
+  pub report_anew : (k : Task) → Report ≡ k → (steps : List Step) → RecoversAnewIn k options facts moment t steps
+  unfolding RecoversAnewIn
+  report_anew k is steps = subst (λ (j : Task). RecoversAnewIn j options facts moment t steps) is tt
 
   pub report_framed : (k : Task) → Report ≡ k → (stated : List Step) → IsFramedIn k options facts moment t (drop (length stated) stated)
   unfolding IsFramedIn
@@ -240,13 +240,13 @@ module _ (options : Options) (facts : Values) (moment : ℕ) (t : Files) where
   unfolding AreMessagesBy read_by
   explain_part k is old new h = subst (λ (j : Task). HasMessagesPartBy j options facts moment t old new) is h
 
-  pub explain_mended : (k : Task) → Explain ≡ k → (stated : List Step) → IsMendedIn k options facts moment t (drop (length stated) stated)
-  unfolding IsMendedIn
-  explain_mended k is stated = subst (λ (j : Task). IsMendedIn j options facts moment t (drop (length stated) stated)) is (drop-length stated)
+  pub explain_recovered : (k : Task) → Explain ≡ k → (stated : List Step) → RecoversIn k options facts moment t (drop (length stated) stated)
+  unfolding RecoversIn
+  explain_recovered k is stated = subst (λ (j : Task). RecoversIn j options facts moment t (drop (length stated) stated)) is (drop-length stated)
 
-  pub explain_anew : (k : Task) → Explain ≡ k → (steps : List Step) → IsMendedAnewIn k options facts moment t steps
-  unfolding IsMendedAnewIn
-  explain_anew k is steps = subst (λ (j : Task). IsMendedAnewIn j options facts moment t steps) is tt
+  pub explain_anew : (k : Task) → Explain ≡ k → (steps : List Step) → RecoversAnewIn k options facts moment t steps
+  unfolding RecoversAnewIn
+  explain_anew k is steps = subst (λ (j : Task). RecoversAnewIn j options facts moment t steps) is tt
 
   pub explain_between : (k : Task) → Explain ≡ k → (steps : List Step) → IsOnTheWayIn k options facts moment t steps
   unfolding IsOnTheWayIn

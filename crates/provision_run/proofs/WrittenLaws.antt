@@ -26,7 +26,7 @@ wholly_written words clock input (Stopped n) out old new h a = (out, h, a)
 wholly_written words clock input (BadFolder f) out old new h a = absurd h.0
 wholly_written words clock input FolderFailed out old new h a = absurd h.0
 
--- a front part of it was taken
+-- a prefix of it was taken
 pub front_written : (words : List (List ℕ)) (clock : ℕ) (left : Option (List ℕ)) (found : Outcome) (out bytes : List ℕ) (old new : Option (List ℕ)) → bytes ≡ out
     → IfSome left (λ input. HasOutput words clock input found out) → AppendsFront old new bytes → IfSome left (λ input. HasWritten words clock input WriteFault old new)
 front_written words clock None found out bytes old new is h front = tt
@@ -47,7 +47,7 @@ module _ (asked : Option Invocation) (seed count : ℕ) (is : asked ≡ Some (Ge
       let stated = by_definition found out h in
       subst (λ (o : Outcome). HasWrittenGenerated seed count o old new) (sym stated.0) (out, stated.1, subst (λ (b : List ℕ). Appends old new b) same taken)
 
-  -- a front part of them was
+  -- a prefix of them was
   pub generated_front : (found : Outcome) (out bytes : List ℕ) (old new : Option (List ℕ)) → bytes ≡ out → IsGeneratedBy asked found out → AppendsFront old new bytes
       → HasWrittenGenerated seed count WriteFault old new
   unfolding HasWrittenGenerated

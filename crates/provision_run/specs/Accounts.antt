@@ -1,5 +1,5 @@
--- A whole run of systemd-sysusers(8): the lines that it reads of the tree, what it says, how it ends, and the most steps
--- that it takes. The tree that it leaves, and the account files, are those of pv_accounts_run.
+-- A complete run of systemd-sysusers(8): the lines that it reads of the tree, what it says, how it ends, and the most steps
+-- that it takes. The tree that it leaves, and the account files, are those of pv_sysusers.
 use Rattle.std.specs.Prelude.{◌≡◌, ◌⊎◌, ℕ, ◌+◌, Bool, List, [], ◌∷◌, ◌++◌, codes, Option, Some, None, Result, Ok, Err}
 use Rattle.std.specs.Option.{option_map_or}
 use Rattle.pv_sysusers.specs.declared.edit.Edit.{Edit}

@@ -40,7 +40,7 @@ status_of FolderFailed = 77
 abbrev pub at_line : ℕ → List ℕ → List ℕ
 at_line n name = codes "bad image at line " ++ decimal n ++ codes ": " ++ name
 
--- what is said of an input that is no image
+-- what is said of an input that is not an image
 abbrev pub bad_image_text : ImageFault → List ℕ
 bad_image_text fault.TooLong = codes "bad image: TooLong"
 bad_image_text (fault.BadHeader n) = at_line n (codes "BadHeader")
@@ -56,7 +56,7 @@ bad_image_text fault.Memory = []
 abbrev pub most_bytes : ℕ
 most_bytes = 67108864
 
--- why an input is refused: it is too long, or else it is no image
+-- why an input is refused: it is too long, or else it is not an image
 abbrev pub IsRefused : List ℕ → ImageFault → Type 0
 IsRefused input fault.TooLong = most_bytes < length input
 IsRefused input fault.Memory = ⊥
@@ -116,14 +116,14 @@ abbrev pub IsGeneratedBy : Option Invocation → Outcome → List ℕ → Type 0
 IsGeneratedBy (Some (Generate seed count)) found out = (found ≡ Done) × IsGenerated seed count out
 IsGeneratedBy asked found out = Unit {0}
 
--- what a call wrote: the whole output, a front part of some output after a failed write, or nothing
+-- what a call wrote: the whole output, a prefix of some output after a failed write, or nothing
 abbrev pub HasWritten : List (List ℕ) → ℕ → List ℕ → Outcome → Option (List ℕ) → Option (List ℕ) → Type 0
 HasWritten words clock input WriteFault old new = (found : Outcome) × (out : List ℕ) × HasOutput words clock input found out × ((k : ℕ) × Appends old new (take k out))
 HasWritten words clock input ReadFault old new = Appends old new []
 HasWritten words clock input Memory old new = Appends old new []
 HasWritten words clock input found old new = (out : List ℕ) × HasOutput words clock input found out × Appends old new out
 
--- what a call wrote whose words ask for a run over a generated tree: the three messages, a front part of them after a failed
+-- what a call wrote whose words ask for a run over a generated tree: the three messages, a prefix of them after a failed
 -- write, or nothing; it has no other outcome
 unfoldable pub HasWrittenGenerated : ℕ → ℕ → Outcome → Option (List ℕ) → Option (List ℕ) → Type 0
 HasWrittenGenerated seed count Done old new = (out : List ℕ) × IsGenerated seed count out × Appends old new out

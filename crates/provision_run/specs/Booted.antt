@@ -34,18 +34,18 @@ is_boot_unfinished lines now t = is_unfinished lines t || some_refusal_counts li
 
 -- ---- stopped runs
 
--- a run from a tree, stopped after any of its steps, is mended by a whole run from there, at any moment: this leaves the
--- tree of one whole run, stamps and staging names aside. No line has a reason against it and none copies; from the start,
+-- a run from a tree, stopped after any of its steps, recovers by a complete run from there, at any moment: this leaves the
+-- tree of one complete run, timestamps and staging names aside. No line has a hazard against it and none copies; from the start,
 -- removing leaves nothing unfinished; and after removing, from the start and from there, creating refuses no line at a turn
-abbrev pub IsBootMended : List Line → ℕ → Files → List Step → Type 0
-IsBootMended lines now t steps = (n later : ℕ) → IsRepeatable lines → AllByRecursion CopiesNothing lines →
+abbrev pub BootRecovers : List Line → ℕ → Files → List Step → Type 0
+BootRecovers lines now t steps = (n later : ℕ) → IsRepeatable lines → AllByRecursion CopiesNothing lines →
     is_unfinished lines t ≡ false →
     IsQuiet lines now (removed lines now t) →
     IsQuiet lines later (removed lines later (after_all t (take n steps) now)) →
     Same (booted lines later (after_all t (take n steps) now)) (booted lines now t)
 
 -- at each moment some of what goes is gone and nothing else has changed; or creating is on its way from what removing
--- leaves: where no line has a reason and creating refuses none at a turn, each path is there as after some lines or after
+-- leaves: if no line has a hazard and creating refuses none at a turn, each path is there as after some lines or after
 -- one more, as far as walks look at it
 abbrev pub IsBootBetween : List Line → ℕ → Files → List Step → Type 0
 IsBootBetween lines now t steps = (n : ℕ) →

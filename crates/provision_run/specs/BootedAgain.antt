@@ -22,11 +22,11 @@ StoppedBoots lines (now ∷ moments) t u =
     IsQuiet lines now (removed lines now t)
     × ((v : Files) × IsTree v × Partway (phases_course lines now) boot_phases t v × StoppedBoots lines moments v u)
 
--- a run from a tree to which such runs had led, stopped after any of its steps: a whole run from there, at any moment,
--- leaves the tree of one whole run from the first of these trees, stamps and staging names aside. From the first one removing
+-- a run from a tree to which such runs had led, stopped after any of its steps: a complete run from there, at any moment,
+-- leaves the tree of one complete run from the first of these trees, timestamps and staging names aside. From the first one removing
 -- leaves nothing unfinished; from the others it may, as where `r` names a directory that creating had filled
-abbrev pub IsBootMendedAgain : List Line → ℕ → Files → List Step → Type 0
-IsBootMendedAgain lines now t steps = (s : Files) (moments : List ℕ) (n first later : ℕ) → IsTree s → IsRepeatable lines →
+abbrev pub BootRecoversAgain : List Line → ℕ → Files → List Step → Type 0
+BootRecoversAgain lines now t steps = (s : Files) (moments : List ℕ) (n first later : ℕ) → IsTree s → IsRepeatable lines →
     AllByRecursion CopiesNothing lines →
     is_unfinished lines s ≡ false →
     StoppedBoots lines moments s t →

@@ -1,4 +1,4 @@
--- An explanation of one path, which does no step: which active lines act on it in the create phase, and what stands there
+-- An explanation of one path, which does no step: which active lines act on it in the create phase, and the object there
 -- after them, each path judged by itself (tmpfiles.d(5)). The texts are this project's own.
 use Rattle.std.specs.Prelude.{◌≡◌, ◌⊎◌, ℕ, true, false, List, [], ◌∷◌, ◌++◌, codes, map, Option, Some, None, option_map}
 use Rattle.std.specs.Fmt.{decimal}
@@ -33,7 +33,7 @@ abbrev pub act_text : Path → LineAct → List ℕ
 act_text path found =
     codes "explain " ++ (found.place.file ++ codes ":" ++ decimal found.place.number) ++ codes " " ++ act_word found.act ++ codes " " ++ printed_path path
 
--- what stands at the path after all lines: nothing, or an object as an image has it, without its path and its stamps
+-- the object at the path after all lines: nothing, or an object as an image has it, without its path and its timestamps
 abbrev pub last_text : Path → Option (Node × List ℕ) → List ℕ
 last_text path None = codes "explain " ++ printed_path path ++ codes " is absent"
 last_text path (Some object) = codes "explain " ++ printed_path path ++ codes " is " ++ object_text (record { node = object.0; payload = object.1 })
@@ -49,8 +49,8 @@ abbrev pub creating : Options → Options
 creating options = record options { create = true; remove = false; clean = false; report = false; purge = false; explain = None }
 
 -- what is said of the path that is asked for: exactly the active lines that act on it, in the order of creating, and what
--- stands there after all lines. Where no line has a reason, a run that creates refuses no line, and the path has no staging
--- name, this is what such a run leaves there, stamps aside
+-- stands there after all lines. Where no line has a hazard, a run that creates refuses no line, and the path has no staging
+-- name, this is what such a run leaves there, timestamps aside
 pub record IsExplanationOf (options : Options) (facts : Values) (t : Files) (new_messages : List (List ℕ)) : Type 0 where
   pub path : Path
   pub asked : options.explain ≡ Some path
@@ -66,7 +66,7 @@ abbrev pub HasExplained : Options → Values → Files → List (List ℕ) → L
 HasExplained options facts t old new =
     (new_messages : List (List ℕ)) × (IsExplanationOf options facts t new_messages × (new ≡ old ++ lines_messages options facts t ++ new_messages))
 
--- a front part of what is said in reading, or of all of it
+-- a prefix of what is said in reading, or of all of it
 abbrev pub HasExplainedPart : Options → Values → Files → List (List ℕ) → List (List ℕ) → Type 0
 HasExplainedPart options facts t old new =
     MessagesPart (lines_messages options facts t) old new

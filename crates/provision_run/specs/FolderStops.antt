@@ -1,5 +1,5 @@
--- Runs on a folder that were broken off, one or more, each on what the last one left there, and then a whole run: the folder then
--- holds what one whole run leaves (systemd-tmpfiles(8), systemd-sysusers(8), `--root`).
+-- Runs on a folder that were broken off, one or more, each on what the last one left there, and then a complete run: the folder then
+-- holds what one complete run leaves (systemd-tmpfiles(8), systemd-sysusers(8), `--root`).
 use Rattle.std.specs.Prelude.{◌≡◌, ℕ, List, ◌∷◌, [], Some}
 use Rattle.pv_folder.specs.Opening.{IsOpened}
 use Rattle.pv_folder.specs.Content.{Content, held, spelled}
@@ -16,7 +16,7 @@ use Rattle.provision_run.specs.OverTree.{HasLeft, outcome_of}
 use Rattle.provision_run.specs.Stops.{IsCalm, unlimited}
 use Rattle.provision_run.specs.Words.{moment_of}
 
--- words that name a folder and mean these options for it, but for the limit and the moment, and the moment of a run by them
+-- words that name a folder and mean these options for it, except for the limit and the moment, and the moment of a run by them
 pub record AreLikeOn (options : Options) (folder : Path) (words : List (List ℕ)) (clock moment : ℕ) : Type 0 where
   pub own : Rooted
   pub meaning : rooted_of words ≡ Some own

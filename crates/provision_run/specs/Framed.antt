@@ -16,7 +16,7 @@ use Rattle.provision_run.specs.declared.task.Task.TheVariants.{Phases, Report, E
 use Rattle.provision_run.specs.Phased.{run_lines}
 
 -- a run that makes accounts, stopped after any of these steps, has left each path as it was but /etc and the account files;
--- stamps and staging names aside
+-- timestamps and staging names aside
 abbrev pub AreAccountsFramed : ℕ → Files → List Step → Type 0
 AreAccountsFramed moment t steps = (n : ℕ) (q : Path) → has_staging q ≡ false → same_path etc q ≡ false → is_one_of account_paths q ≡ false →
     object_states_of (places (after_all t (take n steps) moment)) q ≡ object_states_of (places t) q

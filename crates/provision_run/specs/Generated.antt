@@ -64,7 +64,7 @@ abbrev pub overlaps_text : ℕ → List ℕ → List ℕ
 overlaps_text pairs last = decimal pairs ++ codes " overlaps, " ++ last
 
 -- what is written of a tree with so many lines: its nodes; the nodes that the run leaves, and how many messages it has; how
--- many pairs of lines overlap, and the verdict on the lines, which is `repeatable` exactly where no line has a reason
+-- many pairs of lines overlap, and the verdict on the lines, which is `repeatable` exactly if no line has a hazard
 pub record IsToldOf (lines : ℕ) (t : Files) (out : List ℕ) : Type 0 where
   pub new_messages : List (List ℕ)
   pub is_said : AreMessages create_alone no_facts generated_moment t new_messages

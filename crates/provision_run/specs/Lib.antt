@@ -20,6 +20,7 @@ pub mod Answers
 pub mod OnFolder
 pub mod Stops
 pub mod FolderStops
+pub mod FolderKills
 pub mod Framed
 pub mod OnTheWay
 pub mod Swept

@@ -11,7 +11,7 @@ use Rattle.provision_run.specs.declared.task.Task.TheVariants.{Phases, Report, E
 use Rattle.provision_run.specs.Phased.{run_lines}
 
 -- by the task: phases, by the active lines, where their premises hold: each path is as after some lines or after one more,
--- and each step gives its node what stands at one path after some of them. A report and an explanation do no step; the way of a run that makes
+-- and each step gives its node the object at one path after some of them. A report and an explanation do no step; the way of a run that makes
 -- accounts says which texts are new
 unfoldable pub IsOnTheWayIn : Task → Options → Values → ℕ → Files → List Step → Type 0
 IsOnTheWayIn Phases options facts moment t steps =

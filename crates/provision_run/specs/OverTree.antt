@@ -9,31 +9,31 @@ use Rattle.pv_steps.specs.Trees.{Files}
 use Rattle.pv_steps.specs.Runs.{Along, after_all}
 use Rattle.pv_words.specs.declared.options.Options.{Options}
 use Rattle.provision_run.specs.declared.outcome.Outcome.{Outcome}
-use Rattle.provision_run.specs.declared.outcome.Outcome.TheVariants.{Done, ConfigInvalid, NotCarriedOut, NoFreeId, Stopped}
+use Rattle.provision_run.specs.declared.outcome.Outcome.TheVariants.{Done, ConfigInvalid, NotCarriedOut, Usage, BadImage, NoFreeId, Memory, ReadFault, WriteFault, Stopped, BadFolder, FolderFailed}
 use Rattle.provision_run.specs.declared.ending.RunEnd.{RunEnd}
 use Rattle.provision_run.specs.declared.ending.RunEnd.TheVariants as end
 use Rattle.provision_run.specs.Framed.{IsFramedIn}
 use Rattle.provision_run.specs.OnTheWay.{IsOnTheWayIn}
 use Rattle.provision_run.specs.Swept.{IsSweptIn}
 use Rattle.provision_run.specs.Tasks.{task_of}
-use Rattle.provision_run.specs.Whole.{run_way, final, IsMendedAnewIn, IsMendedIn, is_run_step, AreMessages, IsCutBy, read_messages, run_end, run_work}
+use Rattle.provision_run.specs.Whole.{run_way, final, RecoversAnewIn, RecoversIn, is_run_step, AreMessages, IsCutBy, read_messages, run_end, run_work}
 
 -- ---- any run
 
--- a run has left a tree, whatever it answered: legal steps, each one that the lines ask for, lead there; where it has one phase,
--- is the boot command or makes accounts, the stop law of it holds, also where the lines are read anew of that tree; whatever it
+-- a run has left a tree, whatever it answered: legal steps, each one that the lines ask for, lead there; if it has one phase,
+-- is the boot command or makes accounts, crash safety of it holds, also where the lines are read anew of that tree; whatever it
 -- does, its frame holds; and creating, alone or in the boot command, is on its way, and its steps give what lines leave
 pub record HasLeft (options : Options) (facts : Values) (moment : ℕ) (t left : Files) : Type 0 where
   pub steps : List Step
   pub way : Along (run_way options facts moment t) t steps moment
   pub asked : AllByRecursion (is_run_step options facts moment t) steps
   pub reached : left ≡ after_all t steps moment
-  pub mended : IsMendedIn (task_of options) options facts moment t steps
-  pub anew : IsMendedAnewIn (task_of options) options facts moment t steps
+  pub recovers : RecoversIn (task_of options) options facts moment t steps
+  pub anew : RecoversAnewIn (task_of options) options facts moment t steps
   pub framed : IsFramedIn (task_of options) options facts moment t steps
   pub between : IsOnTheWayIn (task_of options) options facts moment t steps
 
--- ---- whole runs
+-- ---- complete runs
 
 -- the outcome of a run that was not stopped
 abbrev pub outcome_of : RunEnd → Outcome
@@ -45,7 +45,7 @@ outcome_of (end.NoFreeId name) = NoFreeId name
 abbrev pub outcome : Options → Values → ℕ → Files → Outcome
 outcome options facts moment t = outcome_of (run_end options facts moment t)
 
--- a run that was not stopped: how it ended, what is said in reading and what is said then, and the tree of a whole run, by
+-- a run that was not stopped: how it ended, what is said in reading and what is said then, and the tree of a complete run, by
 -- steps that are each done at their turn, no more than the limit where one was given; nothing is left there at the staging
 -- names of what it made
 pub record IsWhole (options : Options) (facts : Values) (moment : ℕ) (t : Files) (found : Outcome) (messages : List (List ℕ)) (left : Files) : Type 0 where
@@ -61,13 +61,14 @@ pub record IsWhole (options : Options) (facts : Values) (moment : ℕ) (t : File
 
 -- ---- runs of which a step was refused
 
--- a front part of what a whole run says after reading
+-- a prefix of what a complete run says after reading
 abbrev pub IsFront : Options → Values → ℕ → Files → List (List ℕ) → Type 0
 IsFront options facts moment t new_messages = (whole : List (List ℕ)) × (AreMessages options facts moment t whole × ((k : ℕ) × (new_messages ≡ take k whole)))
 
 -- a run of which a step was refused, after fewer than the most that it takes: the first of what is said after reading, and the
 -- tree after the steps that were done. Steps and messages are those of one choice: the phases and the lines before the one at
--- work have done and said all, those after it nothing, and the one at work had a step left
+-- work have done and said all, and those after it nothing. The steps of the one at work and the refused step are together no
+-- more than a complete run of it takes
 pub record IsCut (options : Options) (facts : Values) (moment : ℕ) (t : Files) (new_messages : List (List ℕ)) (left : Files) : Type 0 where
   pub gone : HasLeft options facts moment t left
   pub fewer : length gone.steps < run_work options facts moment t
@@ -98,3 +99,41 @@ HasRun options facts moment t found messages left = IsWhole options facts moment
 abbrev pub HasFailed : Options → Values → ℕ → Files → List (List ℕ) → Files → Type 0
 HasFailed options facts moment t messages left =
     (new_messages : List (List ℕ)) × ((messages ≡ read_messages options facts t ++ new_messages) × IsCut options facts moment t new_messages left)
+
+-- ---- the steps that were done
+
+-- what a run has left that ended so: by which steps
+abbrev pub gone_of : (options : Options) (facts : Values) (moment : ℕ) (t : Files) (found : Outcome) (messages : List (List ℕ)) (left : Files)
+    → HasRun options facts moment t found messages left → HasLeft options facts moment t left
+gone_of options facts moment t Done messages left run = run.gone
+gone_of options facts moment t ConfigInvalid messages left run = run.gone
+gone_of options facts moment t NotCarriedOut messages left run = run.gone
+gone_of options facts moment t Usage messages left run = run.gone
+gone_of options facts moment t (BadImage f) messages left run = run.gone
+gone_of options facts moment t (NoFreeId name) messages left run = run.gone
+gone_of options facts moment t Memory messages left run = run.gone
+gone_of options facts moment t ReadFault messages left run = run.gone
+gone_of options facts moment t WriteFault messages left run = run.gone
+gone_of options facts moment t (Stopped n) messages left run = run.cut.gone
+gone_of options facts moment t (BadFolder f) messages left run = run.gone
+gone_of options facts moment t FolderFailed messages left run = run.gone
+
+-- and one of which a step failed
+abbrev pub gone_before : (options : Options) (facts : Values) (moment : ℕ) (t : Files) (messages : List (List ℕ)) (left : Files)
+    → HasFailed options facts moment t messages left → HasLeft options facts moment t left
+gone_before options facts moment t messages left failed = failed.1.1.gone
+
+-- a run has ended so by exactly these steps
+pub record HasRunBy (options : Options) (facts : Values) (moment : ℕ) (t : Files) (found : Outcome) (messages : List (List ℕ)) (left : Files) (steps : List Step) : Type 0 where
+  pub run : HasRun options facts moment t found messages left
+  pub by : (gone_of options facts moment t found messages left run).steps ≡ steps
+
+-- one of which a step failed
+pub record HasFailedBy (options : Options) (facts : Values) (moment : ℕ) (t : Files) (messages : List (List ℕ)) (left : Files) (steps : List Step) : Type 0 where
+  pub run : HasFailed options facts moment t messages left
+  pub by : (gone_before options facts moment t messages left run).steps ≡ steps
+
+-- and any
+pub record HasLeftBy (options : Options) (facts : Values) (moment : ℕ) (t left : Files) (steps : List Step) : Type 0 where
+  pub gone : HasLeft options facts moment t left
+  pub by : gone.steps ≡ steps

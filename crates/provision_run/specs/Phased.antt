@@ -1,4 +1,4 @@
--- A whole run of systemd-tmpfiles(8) that carries out lines: the lines that it reads of the tree, the tree that its phases
+-- A complete run of systemd-tmpfiles(8) that carries out lines: the lines that it reads of the tree, the tree that its phases
 -- leave, what it says, how it ends, and the most steps that it takes.
 use Rattle.std.specs.Prelude.{ℕ, Bool, List, ◌++◌}
 use Rattle.pv_steps.specs.Courses.{Cut, Partway, IsStepOfSome, carried_of}

@@ -2,7 +2,7 @@
 -- judged by the lines that are active when the run begins, each over the tree that those before it leave.
 use Rattle.std.specs.Prelude.{◌≡◌, ℕ, Bool, true, false, List, [], ◌∷◌, ◌++◌, if◌then◌else◌, ⊤}
 use Rattle.pv_clean.specs.Cleaning.{IsCleanStep, TakesOnly, most_steps}
-use Rattle.pv_create.specs.Mended as create
+use Rattle.pv_create.specs.Recovery as create
 use Rattle.pv_create.specs.Ways.{lines_course}
 use Rattle.pv_steps.specs.Courses.{AtWork, Course, Cut, Partway, IsStepOfSome}
 use Rattle.pv_walk.specs.Edits.{Pruned}
@@ -18,7 +18,7 @@ use Rattle.pv_table.specs.Created.{created, created_messages, some_refusal_count
 use Rattle.pv_steps.specs.Doing.{Doing}
 use Rattle.pv_table.specs.Removed.{is_gone, is_purge_unfinished, is_purged, is_unfinished, purged, purged_messages, removed, removed_messages}
 use Rattle.pv_words.specs.declared.options.Options.{Options}
-use Rattle.provision_run.specs.Booted.{IsBootMended}
+use Rattle.provision_run.specs.Booted.{BootRecovers}
 use Rattle.provision_run.specs.declared.phase.Phase.{Phase}
 use Rattle.provision_run.specs.declared.phase.Phase.TheVariants.{Remove, Clean, Create, Purge}
 
@@ -102,13 +102,13 @@ phases_course lines now = record { whole = phase_whole lines now; way = on_way l
 -- ---- stopped runs
 
 -- a run of phases from a tree, stopped after any of these steps. Removing, purging, creating and the boot command, the
--- last two under their premises, are mended: a whole run from there, at any moment, leaves the tree of one whole run,
--- stamps and staging names aside. A stopped clean has taken only what the whole clean takes. Of other phases one after
+-- last two under their premises, recover: a complete run from there, at any moment, leaves the tree of one complete run,
+-- timestamps and staging names aside. A stopped clean has taken only what the whole clean takes. Of other phases one after
 -- the other nothing is said
-abbrev pub IsMendedBy : List Phase → List Line → ℕ → Files → List Step → Type 0
-IsMendedBy (Remove ∷ []) lines now t steps = remove.IsMended (removed lines) now t steps
-IsMendedBy (Clean ∷ []) lines now t steps = TakesOnly (is_aged lines now t) now t steps
-IsMendedBy (Create ∷ []) lines now t steps = create.IsMended lines now t steps
-IsMendedBy (Purge ∷ []) lines now t steps = remove.IsMended (purged lines) now t steps
-IsMendedBy (Remove ∷ Create ∷ []) lines now t steps = IsBootMended lines now t steps
-IsMendedBy phases lines now t steps = ⊤
+abbrev pub RecoversBy : List Phase → List Line → ℕ → Files → List Step → Type 0
+RecoversBy (Remove ∷ []) lines now t steps = remove.Recovers (removed lines) now t steps
+RecoversBy (Clean ∷ []) lines now t steps = TakesOnly (is_aged lines now t) now t steps
+RecoversBy (Create ∷ []) lines now t steps = create.Recovers lines now t steps
+RecoversBy (Purge ∷ []) lines now t steps = remove.Recovers (purged lines) now t steps
+RecoversBy (Remove ∷ Create ∷ []) lines now t steps = BootRecovers lines now t steps
+RecoversBy phases lines now t steps = ⊤

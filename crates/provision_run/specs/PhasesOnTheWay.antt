@@ -18,7 +18,7 @@ IsBetweenBy (Create ∷ []) lines now t steps = IsStoppedBetween lines now t ste
 IsBetweenBy (Remove ∷ Create ∷ []) lines now t steps = IsBootBetween lines now t steps
 IsBetweenBy phases lines now t steps = ⊤
 
--- each of these steps gives its node what stands at one path after some of the lines, under the premises of creating, which
+-- each of these steps gives its node the object at one path after some of the lines, under the premises of creating, which
 -- begins in the boot command with what removing leaves. Of other phases nothing is said here
 abbrev pub GiveBy : List Phase → List Line → ℕ → Files → List Step → Type 0
 GiveBy (Create ∷ []) lines now t steps = GiveWhatLinesLeave lines now t steps

@@ -15,7 +15,7 @@ use Rattle.provision_run.specs.declared.ending.RunEnd.{RunEnd}
 use Rattle.provision_run.specs.Ending.{end_of}
 
 -- what is said in a report of lines: exactly their overlaps and their reasons against repeating, and last the verdict, which
--- is `repeatable` exactly where no line has a reason
+-- is `repeatable` exactly if no line has a hazard
 pub record IsReportOf (lines : List Line) (new_messages : List (List ℕ)) : Type 0 where
   pub report : Report
   pub overlaps : ListsOverlaps lines report.pairs
@@ -28,7 +28,7 @@ abbrev pub HasReported : Options → Values → Files → List (List ℕ) → Li
 HasReported options facts t old new =
     (new_messages : List (List ℕ)) × (IsReportOf (configured t facts options.words).lines new_messages × (new ≡ old ++ (configured t facts options.words).messages ++ new_messages))
 
--- a front part of what is said in reading, or of all of it
+-- a prefix of what is said in reading, or of all of it
 abbrev pub HasReportedPart : Options → Values → Files → List (List ℕ) → List (List ℕ) → Type 0
 HasReportedPart options facts t old new =
     MessagesPart (configured t facts options.words).messages old new

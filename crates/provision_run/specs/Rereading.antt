@@ -2,7 +2,7 @@
 use Rattle.std.specs.Prelude.{◌≡◌, ℕ, false, List, [], ◌∷◌, take, ⊤}
 use Rattle.std.specs.List.{AllByRecursion}
 use Rattle.pv_sysusers.specs.Accounted.{accounted}
-use Rattle.pv_sysusers.specs.Mended.{EndAlike}
+use Rattle.pv_sysusers.specs.Recovery.{EndAlike}
 use Rattle.pv_read_config.specs.Inputs.{is_request_input}
 use Rattle.pv_read_config.specs.Known.{configured}
 use Rattle.pv_read_config.specs.Requested.{requested}
@@ -43,7 +43,7 @@ IsReread options facts moment t steps = (n : ℕ) → ArePlain options → Leave
     configured (after_all t (take n steps) moment) facts options.words ≡ configured t facts options.words
 
 -- what is asked of the lines, by the phases: in removing and purging that none may change what lines are read from; in creating
--- that none has a reason against it; in the boot command that none copies either. Of a clean, and of other phases one after the
+-- that none has a hazard against it; in the boot command that none copies either. Of a clean, and of other phases one after the
 -- other, no second run is told
 abbrev pub MayRepeat : List Phase → List Line → Type 0
 MayRepeat (Remove ∷ []) lines = LeaveInput lines
@@ -52,7 +52,7 @@ MayRepeat (Create ∷ []) lines = IsRepeatable lines
 MayRepeat (Remove ∷ Create ∷ []) lines = IsRepeatable lines × AllByRecursion CopiesNothing lines
 MayRepeat phases lines = ⊥
 
--- what is asked of a tree from which a whole run begins: creating refuses no line at a turn, in the boot command over what
+-- what is asked of a tree from which a complete run begins: creating refuses no line at a turn, in the boot command over what
 -- removing leaves
 abbrev pub IsQuietBy : List Phase → List Line → ℕ → Files → Type 0
 IsQuietBy (Create ∷ []) lines now t = IsQuiet lines now t
@@ -65,15 +65,15 @@ IsFinishedBy (Remove ∷ Create ∷ []) lines t = is_unfinished lines t ≡ fals
 IsFinishedBy phases lines t = ⊤
 
 -- what is asked of the lines, of the tree from which the stopped run began, and of the one that it left
-abbrev pub MayMend : List Phase → List Line → ℕ → Files → ℕ → Files → Type 0
-MayMend phases lines moment t later u =
+abbrev pub MayRecover : List Phase → List Line → ℕ → Files → ℕ → Files → Type 0
+MayRecover phases lines moment t later u =
     MayRepeat phases lines × (IsFinishedBy phases lines t × (IsQuietBy phases lines moment t × IsQuietBy phases lines later u))
 
--- a run of phases, stopped after any of these steps: a whole run from there, which reads its lines anew, leaves the tree of one
--- whole run, stamps and staging names aside, at any moment
-abbrev pub IsMendedAnew : Options → Values → ℕ → Files → List Step → Type 0
-IsMendedAnew options facts moment t steps = (n later : ℕ) → ArePlain options →
-    MayMend (phases_of options) (run_lines options facts t) moment t later (after_all t (take n steps) moment) →
+-- a run of phases, stopped after any of these steps: a complete run from there, which reads its lines anew, leaves the tree of one
+-- whole run, timestamps and staging names aside, at any moment
+abbrev pub RecoversAnew : Options → Values → ℕ → Files → List Step → Type 0
+RecoversAnew options facts moment t steps = (n later : ℕ) → ArePlain options →
+    MayRecover (phases_of options) (run_lines options facts t) moment t later (after_all t (take n steps) moment) →
     Same (phased options facts later (after_all t (take n steps) moment)) (phased options facts moment t)
 
 -- ---- systemd-sysusers
@@ -88,11 +88,11 @@ abbrev pub AreRequestsReread : Options → Values → ℕ → Files → List Ste
 AreRequestsReread options facts moment t steps = (n : ℕ) → ArePlainRequests options →
     requested (after_all t (take n steps) moment) facts options.words ≡ requested t facts options.words
 
--- a run that makes accounts, stopped after any of these steps: a whole run from there, which reads its lines anew, leaves the
--- texts of /etc/group, /etc/gshadow and /etc/passwd that one whole run leaves, at any moment, and on one day the same tree,
--- stamps and staging names aside
-abbrev pub AreAccountsMendedAnew : Options → Values → ℕ → Files → List Step → Type 0
-AreAccountsMendedAnew options facts moment t steps = (n later : ℕ) → ArePlainRequests options →
+-- a run that makes accounts, stopped after any of these steps: a complete run from there, which reads its lines anew, leaves the
+-- texts of /etc/group, /etc/gshadow and /etc/passwd that one complete run leaves, at any moment, and on one day the same tree,
+-- timestamps and staging names aside
+abbrev pub AccountsRecoverAnew : Options → Values → ℕ → Files → List Step → Type 0
+AccountsRecoverAnew options facts moment t steps = (n later : ℕ) → ArePlainRequests options →
     EndAlike moment later
     (accounted (run_requests options facts t) moment t)
     (accounted (run_requests options facts (after_all t (take n steps) moment)) later (after_all t (take n steps) moment))

@@ -1,4 +1,4 @@
--- Runs that were stopped, one or more, each over what the last one left, and then a whole run: it leaves what one whole run
+-- Runs that were stopped, one or more, each over what the last one left, and then a complete run: it leaves what one complete run
 -- leaves (systemd-tmpfiles(8), systemd-sysusers(8)).
 use Rattle.std.specs.Prelude.{◌≡◌, ℕ, List, [], ◌∷◌, take, Some, None}
 use Rattle.std.specs.List.{AllByRecursion}
@@ -22,7 +22,7 @@ use Rattle.provision_run.specs.OverTree.{outcome_of}
 use Rattle.provision_run.specs.Phased.{run_lines}
 use Rattle.provision_run.specs.Rereading.{IsFinishedBy, IsQuietBy}
 use Rattle.provision_run.specs.Tasks.{task_of}
-use Rattle.provision_run.specs.Whole.{IsMendedAnewIn}
+use Rattle.provision_run.specs.Whole.{RecoversAnewIn}
 use Rattle.provision_run.specs.Words.{moment_of}
 
 -- ---- what is asked
@@ -36,10 +36,10 @@ IsCalm options facts t =
 
 -- ---- over trees
 
--- a run from a tree at a moment was stopped after some of its steps, of which the stop law is told, and has left a tree
+-- a run from a tree at a moment was stopped after some of its steps, of which crash safety is told, and has left a tree
 pub record HasStopped (options : Options) (facts : Values) (moment : ℕ) (t u : Files) : Type 0 where
   pub steps : List Step
-  pub anew : IsMendedAnewIn (task_of options) options facts moment t steps
+  pub anew : RecoversAnewIn (task_of options) options facts moment t steps
   pub count : ℕ
   pub left : u ≡ after_all t (take count steps) moment
 
@@ -50,7 +50,7 @@ HaveStopped options facts (moment ∷ moments) t u =
     IsCalm options facts t × ((v : Files) × (HasStopped options facts moment t v × HaveStopped options facts moments v u))
 
 -- what a run that makes accounts leaves, and what one leaves after runs at these moments: /etc/group, /etc/gshadow and
--- /etc/passwd have the same texts, and where all were on one day the trees are the same, stamps and staging names aside
+-- /etc/passwd have the same texts, and where all were on one day the trees are the same, timestamps and staging names aside
 pub record EndAlikeAfter (first : ℕ) (moments : List ℕ) (t u : Files) : Type 0 where
   pub group : text_at (places u) group_path ≡ text_at (places t) group_path
   pub gshadow : text_at (places u) gshadow_path ≡ text_at (places t) gshadow_path
@@ -63,7 +63,7 @@ pub record EndAlikeAfter (first : ℕ) (moments : List ℕ) (t u : Files) : Type
 abbrev pub unlimited : Options → Options
 unlimited options = record options { stop_after = None; now = None }
 
--- words that mean these options, but for the limit and the moment, and the moment of a run by them
+-- words that mean these options, except for the limit and the moment, and the moment of a run by them
 pub record AreLike (options : Options) (words : List (List ℕ)) (clock moment : ℕ) : Type 0 where
   pub own : Options
   pub meaning : parse_args words ≡ Some (Run own)

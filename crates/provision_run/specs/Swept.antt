@@ -1,4 +1,4 @@
--- What a whole run leaves at staging names, by what its options ask for (systemd-tmpfiles(8), systemd-sysusers(8)).
+-- What a complete run leaves at staging names, by what its options ask for (systemd-tmpfiles(8), systemd-sysusers(8)).
 use Rattle.std.specs.Prelude.{ℕ, ⊤}
 use Rattle.pv_sysusers.specs.Swept as accounts
 use Rattle.provision_run.specs.Phases.{phases_of}

@@ -6,7 +6,7 @@ use Rattle.pv_words.specs.declared.options.Options.{Options}
 use Rattle.provision_run.specs.declared.task.Task.{Task}
 use Rattle.provision_run.specs.declared.task.Task.TheVariants.{Phases, Report, Explain, Accounts}
 
--- accounts of systemd-sysusers; of systemd-tmpfiles a report or the explanation of a path where it is asked for, else phases
+-- accounts of systemd-sysusers; of systemd-tmpfiles a report or the explanation of a path where it is asked for, otherwise phases
 abbrev pub task_by : Tool → Bool → Bool → Task
 task_by Tmpfiles true explain = Report
 task_by Tmpfiles false true = Explain

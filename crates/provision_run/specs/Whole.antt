@@ -1,11 +1,11 @@
--- A whole run over a tree, by what its options ask for: the tree that it leaves, what it says, how it ends, and the most
+-- A complete run over a tree, by what its options ask for: the tree that it leaves, what it says, how it ends, and the most
 -- steps that it takes (systemd-tmpfiles(8), systemd-sysusers(8)).
 use Rattle.std.specs.Prelude.{◌≡◌, ◌⊎◌, ℕ, List, [], ◌++◌, ⊤}
 use Rattle.pv_sysusers.specs.Accounted.{accounted}
 use Rattle.pv_sysusers.specs.FileWriting.{AccountWay, IsAccountStep}
-use Rattle.pv_sysusers.specs.Mended as accounts
+use Rattle.pv_sysusers.specs.Recovery as accounts
 use Rattle.pv_read_config.specs.Known.{configured}
-use Rattle.provision_run.specs.Phases.{IsMendedBy, phases_of}
+use Rattle.provision_run.specs.Phases.{RecoversBy, phases_of}
 use Rattle.pv_steps.specs.declared.step.Step.{Step}
 use Rattle.pv_steps.specs.Trees.{Files}
 use Rattle.pv_text.specs.Facts.{Values}
@@ -18,7 +18,7 @@ use Rattle.provision_run.specs.Accounts.{account_messages, accounts_end, account
 use Rattle.provision_run.specs.Explained.{IsExplanationOf}
 use Rattle.provision_run.specs.Phased.{is_phases_step, lines_messages, phase_messages, phased, phases_cut, phases_end, phases_way, phases_work, run_lines}
 use Rattle.provision_run.specs.Reported.{IsReportOf, report_end}
-use Rattle.provision_run.specs.Rereading.{AreAccountsMendedAnew, AreRequestsReread, IsMendedAnew, IsReread}
+use Rattle.provision_run.specs.Rereading.{AccountsRecoverAnew, AreRequestsReread, RecoversAnew, IsReread}
 use Rattle.provision_run.specs.Tasks.{task_of}
 
 -- ---- by the task
@@ -75,12 +75,12 @@ work_by Accounts options facts moment t = accounts_work options facts moment t
 
 -- ---- what is said
 
--- what a whole run has said after messages that were there before
+-- what a complete run has said after messages that were there before
 abbrev pub HasMessagesBy : Task → Options → Values → ℕ → Files → List (List ℕ) → List (List ℕ) → Type 0
 HasMessagesBy task options facts moment t old new =
     (new_messages : List (List ℕ)) × (AreMessagesBy task options facts moment t new_messages × (new ≡ old ++ read_by task options facts t ++ new_messages))
 
--- what any run has said: a front part of what is said in reading, or of all that a whole run says
+-- what any run has said: a prefix of what is said in reading, or of all that a complete run says
 abbrev pub HasMessagesPartBy : Task → Options → Values → ℕ → Files → List (List ℕ) → List (List ℕ) → Type 0
 HasMessagesPartBy task options facts moment t old new =
     MessagesPart (read_by task options facts t) old new
@@ -102,22 +102,22 @@ abbrev pub HasGoneBy : Task → Options → Values → ℕ → ℕ → Files →
 HasGoneBy task options facts moment refused t steps old new =
     (new_messages : List (List ℕ)) × ((new ≡ old ++ read_by task options facts t ++ new_messages) × IsCutBy task options facts moment refused t steps new_messages)
 
--- ---- the stop laws
+-- ---- crash safety
 
 -- of a run of one phase, of the boot command, and of a run that makes accounts; a report and an explanation do no step
-unfoldable pub IsMendedIn : Task → Options → Values → ℕ → Files → List Step → Type 0
-IsMendedIn Phases options facts moment t steps = IsMendedBy (phases_of options) (run_lines options facts t) moment t steps
-IsMendedIn Report options facts moment t steps = steps ≡ []
-IsMendedIn Explain options facts moment t steps = steps ≡ []
-IsMendedIn Accounts options facts moment t steps = accounts.IsMended (run_requests options facts t) moment t steps
+unfoldable pub RecoversIn : Task → Options → Values → ℕ → Files → List Step → Type 0
+RecoversIn Phases options facts moment t steps = RecoversBy (phases_of options) (run_lines options facts t) moment t steps
+RecoversIn Report options facts moment t steps = steps ≡ []
+RecoversIn Explain options facts moment t steps = steps ≡ []
+RecoversIn Accounts options facts moment t steps = accounts.Recovers (run_requests options facts t) moment t steps
 
--- the same is read of the tree that it has left, and a second run, which reads its lines there, mends it: a run of one phase, the
+-- the same is read of the tree that it has left, and a second run, which reads its lines there, completes it: a run of one phase, the
 -- boot command, and a run that makes accounts
-unfoldable pub IsMendedAnewIn : Task → Options → Values → ℕ → Files → List Step → Type 0
-IsMendedAnewIn Phases options facts moment t steps = IsReread options facts moment t steps × IsMendedAnew options facts moment t steps
-IsMendedAnewIn Report options facts moment t steps = ⊤
-IsMendedAnewIn Explain options facts moment t steps = ⊤
-IsMendedAnewIn Accounts options facts moment t steps = AreRequestsReread options facts moment t steps × AreAccountsMendedAnew options facts moment t steps
+unfoldable pub RecoversAnewIn : Task → Options → Values → ℕ → Files → List Step → Type 0
+RecoversAnewIn Phases options facts moment t steps = IsReread options facts moment t steps × RecoversAnew options facts moment t steps
+RecoversAnewIn Report options facts moment t steps = ⊤
+RecoversAnewIn Explain options facts moment t steps = ⊤
+RecoversAnewIn Accounts options facts moment t steps = AreRequestsReread options facts moment t steps × AccountsRecoverAnew options facts moment t steps
 
 -- ---- by the options
 

@@ -1,15 +1,15 @@
 //! A run that makes users and groups.
-ghost use Rattle.std.specs.Prelude.{◌≡◌, ◌∷◌, [], ◌++◌, true, drop, length, IfOk, IsErrOf, OnOk, OnErr};
+ghost use Rattle.std.specs.Prelude.{◌≡◌, ◌∷◌, [], ◌++◌, true, IfOk, IsErrOf, OnOk, OnErr};
 ghost use Rattle.pv_text.specs.Lines.{is_line};
 ghost use Rattle.pv_text.specs.GivenMessages.{MessagesPart};
 ghost use Rattle.pv_steps.specs.declared.tree.TreeFault.TheVariants.{Failed};
-ghost use Rattle.pv_steps.specs.Acting.{Acted};
+ghost use Rattle.pv_steps.specs.Acting.{Acted, steps_done};
 ghost use Rattle.pv_sysusers.specs.Accounted.{accounted};
 ghost use Rattle.pv_sysusers.specs.FileWriting.{AccountWay, IsAccountStep};
-ghost use Rattle.pv_sysusers.specs.Mended.{IsMended};
+ghost use Rattle.pv_sysusers.specs.Recovery.{Recovers};
 ghost use Rattle.pv_sysusers.specs.Swept.{LeavesNoStagingName};
 ghost use Rattle.provision_run.specs.Framed.{AreAccountsFramed};
-ghost use Rattle.provision_run.specs.Rereading.{AreAccountsMendedAnew, AreRequestsReread};
+ghost use Rattle.provision_run.specs.Rereading.{AccountsRecoverAnew, AreRequestsReread};
 ghost use Rattle.provision_run.specs.Accounts.{account_messages, accounts_end, accounts_work, IsEnded, lacking_text, requests_messages, run_edits, run_requests};
 
 use crate::ending::{RunEnd, end_of};
@@ -46,14 +46,13 @@ pub(crate) fn make_accounts<T: Tree>(
         (IsAccountStep (run_edits options.entry.now facts.now moment (T.state tree.old)) (T.state tree.old))
         (accounts_work options.entry.now facts.now moment (T.state tree.old))
         moment tree.old tree.new result }
-    ensures mended { IsMended (run_requests options.entry.now facts.now (T.state tree.old)) moment (T.state tree.old)
-        (drop (length (T.steps tree.old)) (T.steps tree.new)) }
+    ensures recovers { Recovers (run_requests options.entry.now facts.now (T.state tree.old)) moment (T.state tree.old)
+        (steps_done T.Tree tree.old tree.new) }
     ensures reread { AreRequestsReread options.entry.now facts.now moment (T.state tree.old)
-        (drop (length (T.steps tree.old)) (T.steps tree.new)) }
-    ensures anew { AreAccountsMendedAnew options.entry.now facts.now moment (T.state tree.old)
-        (drop (length (T.steps tree.old)) (T.steps tree.new)) }
-    ensures framed { AreAccountsFramed moment (T.state tree.old)
-        (drop (length (T.steps tree.old)) (T.steps tree.new)) }
+        (steps_done T.Tree tree.old tree.new) }
+    ensures anew { AccountsRecoverAnew options.entry.now facts.now moment (T.state tree.old)
+        (steps_done T.Tree tree.old tree.new) }
+    ensures framed { AreAccountsFramed moment (T.state tree.old) (steps_done T.Tree tree.old tree.new) }
 {
     let read = read_requests(alloc, tree, &options.words, facts, messages)?;
     let answer = accounts_run(alloc, tree, &read.lines, moment, messages);

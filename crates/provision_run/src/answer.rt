@@ -69,7 +69,7 @@ pub(crate) fn one_message(
     Ok(Answer { outcome, output })
 }
 
-/// The answer to an input that is no image.
+/// The answer to an input that is not an image.
 fn refuse(alloc: Global, fault: ImageFault) -> Result<Answer, AllocError>
     ensures { IfOk result (λ answer. (answer.outcome ≡ Outcome.BadImage fault) × (answer.output.items ≡ message (bad_image_text fault))) }
 {

@@ -1,14 +1,14 @@
 //! A run that carries out lines: reading, then the phases that are asked for.
-ghost use Rattle.std.specs.Prelude.{◌≡◌, ◌++◌, drop, length, OnOk, IfOk, IsErrOf};
+ghost use Rattle.std.specs.Prelude.{◌≡◌, ◌++◌, OnOk, IfOk, IsErrOf};
 ghost use Rattle.pv_text.specs.GivenMessages.{MessagesPart};
 ghost use Rattle.pv_steps.specs.declared.tree.TreeFault.TheVariants.{Failed};
-ghost use Rattle.pv_steps.specs.Acting.{Acted};
+ghost use Rattle.pv_steps.specs.Acting.{Acted, steps_done};
 ghost use Rattle.pv_create.specs.OnTheWay.{IsFramed};
 ghost use Rattle.pv_steps.specs.Courses.{HasGone};
 ghost use Rattle.provision_run.specs.PhasesOnTheWay.{GiveBy, IsBetweenBy};
-ghost use Rattle.provision_run.specs.Phases.{IsMendedBy, phases_of};
+ghost use Rattle.provision_run.specs.Phases.{RecoversBy, phases_of};
 ghost use Rattle.provision_run.specs.PhasesSwept.{IsSweptBy};
-ghost use Rattle.provision_run.specs.Rereading.{IsMendedAnew, IsReread};
+ghost use Rattle.provision_run.specs.Rereading.{RecoversAnew, IsReread};
 ghost use Rattle.provision_run.specs.Phased.{is_phases_step, lines_messages, phase_messages, phased, phases_cut, phases_end, phases_way, phases_work, run_lines};
 
 use crate::ending::{RunEnd, end_of};
@@ -47,18 +47,18 @@ pub(crate) fn run_configured_phases<T: Tree>(
         (is_phases_step options.entry.now facts.now moment (T.state tree.old))
         (phases_work options.entry.now facts.now moment (T.state tree.old))
         moment tree.old tree.new result }
-    ensures mended { IsMendedBy (phases_of options.entry.now) (run_lines options.entry.now facts.now (T.state tree.old)) moment (T.state tree.old)
-        (drop (length (T.steps tree.old)) (T.steps tree.new)) }
+    ensures recovers { RecoversBy (phases_of options.entry.now) (run_lines options.entry.now facts.now (T.state tree.old)) moment (T.state tree.old)
+        (steps_done T.Tree tree.old tree.new) }
     ensures reread { IsReread options.entry.now facts.now moment (T.state tree.old)
-        (drop (length (T.steps tree.old)) (T.steps tree.new)) }
-    ensures anew { IsMendedAnew options.entry.now facts.now moment (T.state tree.old)
-        (drop (length (T.steps tree.old)) (T.steps tree.new)) }
+        (steps_done T.Tree tree.old tree.new) }
+    ensures anew { RecoversAnew options.entry.now facts.now moment (T.state tree.old)
+        (steps_done T.Tree tree.old tree.new) }
     ensures framed { IsFramed (run_lines options.entry.now facts.now (T.state tree.old)) moment (T.state tree.old)
-        (drop (length (T.steps tree.old)) (T.steps tree.new)) }
+        (steps_done T.Tree tree.old tree.new) }
     ensures between { IsBetweenBy (phases_of options.entry.now) (run_lines options.entry.now facts.now (T.state tree.old)) moment (T.state tree.old)
-        (drop (length (T.steps tree.old)) (T.steps tree.new)) }
+        (steps_done T.Tree tree.old tree.new) }
     ensures gives { GiveBy (phases_of options.entry.now) (run_lines options.entry.now facts.now (T.state tree.old)) moment (T.state tree.old)
-        (drop (length (T.steps tree.old)) (T.steps tree.new)) }
+        (steps_done T.Tree tree.old tree.new) }
 {
     let read = read_run(alloc, options, facts, tree, messages)?;
     let phases = phases_of(alloc, options)?;

@@ -15,8 +15,8 @@ use pv_text::{Facts, Messages, say_all};
 use pv_words::Options;
 use std::alloc::{AllocError, Global};
 
-/// Reads the configuration of a tree and says which of its active lines act on the path that the options ask for, and what
-/// stands there after them.
+/// Reads the configuration of a tree. Says which of its active lines act on the path that the options name, and which
+/// object is there after them.
 pub(crate) fn explain_run<T: Tree>(
     alloc: Global,
     options: &Options,
@@ -97,7 +97,7 @@ fn object_text(
     Ok(text)
 }
 
-/// What stands at the path after all lines.
+/// The text on the object at the path after all lines.
 fn last_text(
     alloc: Global,
     path: &TreePath,
@@ -127,7 +127,7 @@ fn say_acts(
     Ok(())
 }
 
-/// Says which lines act on the path, and what stands there after all lines.
+/// Says which lines act on the path, and which object is there after all lines.
 fn say_explained(
     alloc: Global,
     path: &TreePath,

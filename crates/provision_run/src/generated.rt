@@ -33,8 +33,9 @@ pub(crate) fn run_generated(alloc: Global, seed: u64, count: u32) -> Result<Vec<
     run_over_lines(alloc, tree, count)
 }
 
-/// What is written of the run over a tree with so many lines: how many nodes it has, how many nodes and messages there
-/// are then, how many pairs of lines overlap, and whether the lines may be carried out twice.
+/// What is written of a run over a tree with so many lines. It says how many nodes the tree has, and how many nodes and
+/// messages there are after the run. It also says how many pairs of lines overlap, and whether the lines are
+/// repeatable.
 fn run_over_lines(alloc: Global, tree: MemTree, lines: u32) -> Result<Vec<u8>, AllocError>
     ensures { IfOk result (λ text. IsToldOf lines tree.files text.items) }
 {

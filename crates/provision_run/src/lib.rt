@@ -25,14 +25,15 @@ mod top;
 pub use boot::boot_run;
 pub use ending::RunEnd;
 pub use laws::{
-    folders_of_stopped_runs_are_mended, outputs_of_stopped_runs_are_mended,
-    trees_of_stopped_runs_are_mended,
+    a_run_on_a_folder_always_holds_an_intermediate_tree, folders_of_killed_runs_recover,
+    folders_of_stopped_runs_recover, outputs_of_stopped_runs_recover,
+    trees_of_stopped_runs_recover,
 };
 pub use outcome::{Outcome, status};
 pub use phase::{Phase, phases_of, run_phases};
 pub use phase_laws::{
-    a_boot_cut_short_is_mended, a_boot_leaves_what_lines_are_read_from,
-    a_boot_on_its_way_removes_or_is_between_two_lines, boots_cut_short_again_and_again_are_mended,
+    a_boot_cut_short_recovers, a_boot_leaves_what_lines_are_read_from,
+    a_boot_on_its_way_removes_or_is_between_two_lines, boots_cut_short_again_and_again_recover,
     what_no_line_governs_stays,
 };
 pub use run::run_on_tree;

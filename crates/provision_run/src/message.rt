@@ -33,7 +33,7 @@ pub fn print_messages(alloc: Global, messages: &Messages) -> Result<Vec<u8>, All
     Ok(output)
 }
 
-/// Adds the message at a place, where there is one.
+/// Adds the message at a place, if there is one.
 fn add_line(output: &mut Vec<u8>, messages: &Messages, i: usize) -> Result<(), AllocError>
     ensures { OnOk result (output.new.items ≡ output.old.items ++ message_at messages.now i) }
 {
@@ -55,7 +55,7 @@ fn at_line(alloc: Global, number: u64, name: &str) -> Result<Vec<u8>, AllocError
     Ok(text)
 }
 
-/// What is said of an input that is no image.
+/// The message on an input that is not an image.
 pub fn bad_image(alloc: Global, fault: ImageFault) -> Result<Vec<u8>, AllocError>
     ensures { IfOk result (λ text. text.items ≡ bad_image_text fault) }
 {
@@ -70,7 +70,7 @@ pub fn bad_image(alloc: Global, fault: ImageFault) -> Result<Vec<u8>, AllocError
     }
 }
 
-/// What is said of a folder that is not opened: the name of the fault, and nothing where the folder is not at fault.
+/// What is said of a folder that is not opened: the name of the fault, and nothing if the folder is not at fault.
 pub fn bad_folder(alloc: Global, fault: &OpenFault) -> Result<Vec<u8>, AllocError>
     ensures text { IfOk result (λ text. text.items ≡ bad_folder_text fault.now) }
     ensures line { IfOk result (λ text. is_line text.items ≡ true) }

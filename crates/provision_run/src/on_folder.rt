@@ -8,7 +8,7 @@ ghost use Rattle.pv_folder.specs.Keeping.{Keeps};
 ghost use Rattle.pv_folder.specs.Manifest.{manifest_of};
 ghost use Rattle.pv_folder.specs.Opening.{IsOpened};
 ghost use Rattle.provision_run.specs.Messages.{messages_text};
-ghost use Rattle.provision_run.specs.OnFolder.{EndsAs, HasOutputOn, IsAnswerOn, IsShortOn, WasOpened, bad_folder_text};
+ghost use Rattle.provision_run.specs.OnFolder.{EndsAs, HasOutputOn, IsAnswerOn, IsShortOn, bad_folder_text};
 
 use crate::answer::{Answer, one_message};
 use crate::message::{bad_folder, print_messages};
@@ -29,11 +29,11 @@ pub(crate) fn answer_folder<H: Host>(
     host: &mut H,
 ) -> Result<Answer, AllocError>
     ensures output { IfOk result (λ answer. HasOutputOn (spelled rooted.entry.now.folder) rooted.entry.now.options clock
-        (record { content = H.content host.old; faults = H.faults host.old })
-        (record { content = H.content host.new; faults = H.faults host.new }) answer.outcome answer.output.items) }
+        (record { content = H.content host.old; changes = H.changes host.old; faults = H.faults host.old })
+        (record { content = H.content host.new; changes = H.changes host.new; faults = H.faults host.new }) answer.outcome answer.output.items) }
     ensures short { OnErr result (IsShortOn (spelled rooted.entry.now.folder) rooted.entry.now.options clock
-        (record { content = H.content host.old; faults = H.faults host.old })
-        (record { content = H.content host.new; faults = H.faults host.new })) }
+        (record { content = H.content host.old; changes = H.changes host.old; faults = H.faults host.old })
+        (record { content = H.content host.new; changes = H.changes host.new; faults = H.faults host.new })) }
 {
     match read_folder(alloc, host, rooted.folder.as_slice()) {
         Ok(image) => run_opened(alloc, rooted, image, clock, host),
@@ -67,11 +67,11 @@ fn run_opened<H: Host>(
     requires opened { IfSome (H.content host.old) (λ c. IsOpened (spelled rooted.now.folder) c image.facts image.tree.files) }
     requires ready { IfSome (H.content host.old) (λ c. Keeps (spelled rooted.now.folder) image.tree.files c) }
     ensures output { IfOk result (λ answer. HasOutputOn (spelled rooted.entry.now.folder) rooted.entry.now.options clock
-        (record { content = H.content host.old; faults = H.faults host.old })
-        (record { content = H.content host.new; faults = H.faults host.new }) answer.outcome answer.output.items) }
+        (record { content = H.content host.old; changes = H.changes host.old; faults = H.faults host.old })
+        (record { content = H.content host.new; changes = H.changes host.new; faults = H.faults host.new }) answer.outcome answer.output.items) }
     ensures short { OnErr result (IsShortOn (spelled rooted.entry.now.folder) rooted.entry.now.options clock
-        (record { content = H.content host.old; faults = H.faults host.old })
-        (record { content = H.content host.new; faults = H.faults host.new })) }
+        (record { content = H.content host.old; changes = H.changes host.old; faults = H.faults host.old })
+        (record { content = H.content host.new; changes = H.changes host.new; faults = H.faults host.new })) }
 {
     let Image { tree, facts } = image;
     let folder = Vec::from_slice(alloc, rooted.folder.as_slice())?;
@@ -112,14 +112,14 @@ fn run_kept<H: Host>(
 ) -> Result<Outcome, OutOfMemory>
     requires fresh { tree.old.tree.steps ≡ [] }
     requires messages_kept { messages.old ≡ [] }
-    requires opened { WasOpened (spelled tree.old.folder.items) (H.content tree.old.host.now) facts.now tree.old.tree.files }
+    requires opened { IfSome (H.content tree.old.host.now) (λ c. IsOpened (spelled tree.old.folder.items) c facts.now tree.old.tree.files) }
     requires settled { tree.old.pending ≡ false }
     ensures answer { IfOk result (λ found. IsAnswerOn (spelled tree.old.folder.items) options.entry.now clock
-        (record { content = H.content tree.old.host.now; faults = H.faults tree.old.host.now })
-        (record { content = H.content tree.new.host.now; faults = H.faults tree.new.host.now }) found messages.new) }
+        (record { content = H.content tree.old.host.now; changes = H.changes tree.old.host.now; faults = H.faults tree.old.host.now })
+        (record { content = H.content tree.new.host.now; changes = H.changes tree.new.host.now; faults = H.faults tree.new.host.now }) found messages.new) }
     ensures short { OnErr result (IsShortOn (spelled tree.old.folder.items) options.entry.now clock
-        (record { content = H.content tree.old.host.now; faults = H.faults tree.old.host.now })
-        (record { content = H.content tree.new.host.now; faults = H.faults tree.new.host.now })) }
+        (record { content = H.content tree.old.host.now; changes = H.changes tree.old.host.now; faults = H.faults tree.old.host.now })
+        (record { content = H.content tree.new.host.now; changes = H.changes tree.new.host.now; faults = H.faults tree.new.host.now })) }
 
     // Where memory ran out in the run, and neither memory nor the host failed in closing, the manifest is that of what is left.
     ensures closed { IsErrOf result OutOfMemory.InRun →
@@ -159,7 +159,7 @@ fn outcome_of(
     }
 }
 
-/// An outcome where what a run has left is kept; else that of a host that failed.
+/// An outcome where what a run has left is kept; otherwise that of a host that failed.
 fn kept_outcome(
     outcome: Outcome,
     pending: bool,

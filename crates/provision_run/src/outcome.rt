@@ -17,7 +17,7 @@ pub enum Outcome {
     NotCarriedOut,
     /// The words have no meaning.
     Usage,
-    /// The input is no image of a tree.
+    /// The input is not an image of a tree.
     BadImage(ImageFault),
     /// No number was left for a user or a group of this name.
     NoFreeId(Bytes),
@@ -25,7 +25,7 @@ pub enum Outcome {
     Memory,
     /// The source failed; nothing was written.
     ReadFault,
-    /// The sink failed; a front part of the output was written.
+    /// The sink failed after a prefix of the output was written.
     WriteFault,
     /// The run was stopped after so many steps.
     Stopped(u64),

@@ -1,12 +1,12 @@
 //! The phases of a run, one after the other.
-ghost use Rattle.std.specs.Prelude.{◌≡◌, ◌++◌, ◌∷◌, [], drop, length, IfOk, OnOk};
+ghost use Rattle.std.specs.Prelude.{◌≡◌, ◌++◌, ◌∷◌, [], IfOk, OnOk};
 ghost use Rattle.pv_create.specs.OnTheWay.{IsFramed};
 ghost use Rattle.pv_steps.specs.Courses.{Partway, IsStepOfSome, carried_of, Cut, HasGone};
-ghost use Rattle.pv_steps.specs.Acting.{refused, Acted};
+ghost use Rattle.pv_steps.specs.Acting.{refused, Acted, steps_done};
 ghost use Rattle.pv_steps.specs.Doing.{after_each, messages_for_each, one_is_refused, taken_by_each};
 ghost use Rattle.pv_text.specs.GivenMessages.{MessagesPart};
 ghost use Rattle.provision_run.specs.PhasesOnTheWay.{GiveBy, IsBetweenBy};
-ghost use Rattle.provision_run.specs.Phases.{asked, falls_short, is_boot, is_step_of, IsMendedBy, left_by, most_steps_of, on_way, phase_cut, phases_course, phases_of, messages_in};
+ghost use Rattle.provision_run.specs.Phases.{asked, falls_short, is_boot, is_step_of, RecoversBy, left_by, most_steps_of, on_way, phase_cut, phases_course, phases_of, messages_in};
 ghost use Rattle.provision_run.specs.PhasesSwept.{IsSweptBy};
 
 use crate::boot::boot_run;
@@ -88,14 +88,10 @@ pub fn run_phases<T: Tree>(
     // them, and those after it nothing; so it is with the lines of creating.
     ensures went { HasGone T.Tree (Cut (phases_course table.now now) now (refused result) phases.now (T.state tree.old))
         now tree.old tree.new messages.old messages.new }
-    ensures mended { IsMendedBy phases.now table.now now (T.state tree.old)
-        (drop (length (T.steps tree.old)) (T.steps tree.new)) }
-    ensures framed { IsFramed table.now now (T.state tree.old)
-        (drop (length (T.steps tree.old)) (T.steps tree.new)) }
-    ensures between { IsBetweenBy phases.now table.now now (T.state tree.old)
-        (drop (length (T.steps tree.old)) (T.steps tree.new)) }
-    ensures gives { GiveBy phases.now table.now now (T.state tree.old)
-        (drop (length (T.steps tree.old)) (T.steps tree.new)) }
+    ensures recovers { RecoversBy phases.now table.now now (T.state tree.old) (steps_done T.Tree tree.old tree.new) }
+    ensures framed { IsFramed table.now now (T.state tree.old) (steps_done T.Tree tree.old tree.new) }
+    ensures between { IsBetweenBy phases.now table.now now (T.state tree.old) (steps_done T.Tree tree.old tree.new) }
+    ensures gives { GiveBy phases.now table.now now (T.state tree.old) (steps_done T.Tree tree.old tree.new) }
 {
     // The lines of a table were read.
     let _lines = table.lines();
@@ -127,8 +123,7 @@ fn do_phase<T: Tree>(
         (most_steps_of table.now now phase (T.state tree.old)) now tree.old tree.new result }
     ensures went { HasGone T.Tree (phase_cut table.now now (refused result) phase (T.state tree.old))
         now tree.old tree.new messages.old messages.new }
-    ensures mended { IsMendedBy (phase ∷ []) table.now now (T.state tree.old)
-        (drop (length (T.steps tree.old)) (T.steps tree.new)) }
+    ensures recovers { RecoversBy (phase ∷ []) table.now now (T.state tree.old) (steps_done T.Tree tree.old tree.new) }
 {
     match phase {
         Phase::Remove => remove_run(alloc, tree, table, now, messages),

@@ -12,7 +12,7 @@ use pv_words::Options;
 use std::alloc::{AllocError, Global};
 
 /// Reads the configuration of a tree and reports on all its lines, active or not: which of them share a path, and which
-/// have a reason against repeating.
+/// have a hazard.
 pub(crate) fn report_run<T: Tree>(
     alloc: Global,
     options: &Options,

@@ -1,12 +1,12 @@
 //! A run over any tree, by what its options ask for.
-ghost use Rattle.std.specs.Prelude.{◌≡◌, drop, length, OnOk, IfOk, IsErrOf};
+ghost use Rattle.std.specs.Prelude.{◌≡◌, OnOk, IfOk, IsErrOf};
 ghost use Rattle.pv_steps.specs.declared.tree.TreeFault.TheVariants.{Failed};
-ghost use Rattle.pv_steps.specs.Acting.{Acted};
+ghost use Rattle.pv_steps.specs.Acting.{Acted, steps_done};
 ghost use Rattle.provision_run.specs.Tasks.{task_of};
 ghost use Rattle.provision_run.specs.Framed.{IsFramedIn};
 ghost use Rattle.provision_run.specs.OnTheWay.{IsOnTheWayIn};
 ghost use Rattle.provision_run.specs.Swept.{IsSweptIn};
-ghost use Rattle.provision_run.specs.Whole.{final, HasMessagesBy, HasMessagesPartBy, HasGoneBy, IsMendedAnewIn, IsMendedIn, is_run_step, run_end, run_way, run_work};
+ghost use Rattle.provision_run.specs.Whole.{final, HasMessagesBy, HasMessagesPartBy, HasGoneBy, RecoversAnewIn, RecoversIn, is_run_step, run_end, run_way, run_work};
 
 use crate::accounting::make_accounts;
 use crate::configured_phases::run_configured_phases;
@@ -19,9 +19,9 @@ use pv_text::{Facts, Messages};
 use pv_words::Options;
 use std::alloc::Global;
 
-/// Reads the configuration of a tree and does what the options ask for: of systemd-tmpfiles(8) the phases of removing,
-/// cleaning and creating in this order, or purging alone, or a report or the explanation of a path, which do no step; of
-/// systemd-sysusers(8) the users and groups.
+/// Reads the configuration of a tree and does what the options ask for. For systemd-tmpfiles(8) these are the phases of
+/// removing, cleaning and creating, in this order, or purging alone. A report and the explanation of a path do no step.
+/// For systemd-sysusers(8) it makes the users and groups.
 pub fn run_on_tree<T: Tree>(
     alloc: Global,
     options: &Options,
@@ -30,7 +30,7 @@ pub fn run_on_tree<T: Tree>(
     tree: &mut T,
     messages: &mut Messages,
 ) -> Result<RunEnd, TreeFault>
-    // What a whole run leaves, stamps and staging names included, what it says and how it ends.
+    // What a complete run leaves, timestamps and staging names included, what it says and how it ends.
     ensures ok { OnOk result (T.state tree.new ≡ final options.entry.now facts.now moment (T.state tree.old)) }
     ensures new_messages { OnOk result (HasMessagesBy (task_of options.entry.now) options.entry.now facts.now moment (T.state tree.old) messages.old messages.new) }
     ensures end { IfOk result (λ end. end ≡ run_end options.entry.now facts.now moment (T.state tree.old)) }
@@ -42,28 +42,28 @@ pub fn run_on_tree<T: Tree>(
     // Where a step was refused, the configuration was read and all was said of it; the phases and the lines before the one
     // at work have done and said all, those after it nothing. So it is where it answers Ok, with no step refused.
     ensures read { IsErrOf result Failed → HasGoneBy (task_of options.entry.now) options.entry.now facts.now moment 1 (T.state tree.old)
-        (drop (length (T.steps tree.old)) (T.steps tree.new)) messages.old messages.new }
+        (steps_done T.Tree tree.old tree.new) messages.old messages.new }
     ensures in_turn { OnOk result (HasGoneBy (task_of options.entry.now) options.entry.now facts.now moment 0 (T.state tree.old)
-        (drop (length (T.steps tree.old)) (T.steps tree.new)) messages.old messages.new) }
+        (steps_done T.Tree tree.old tree.new) messages.old messages.new) }
     ensures acted { Acted T.Tree
         (run_way options.entry.now facts.now moment (T.state tree.old))
         (is_run_step options.entry.now facts.now moment (T.state tree.old))
         (run_work options.entry.now facts.now moment (T.state tree.old))
         moment tree.old tree.new result }
 
-    // The stop law of a run of one phase, of the boot command, and of a run that makes accounts.
-    ensures mended { IsMendedIn (task_of options.entry.now) options.entry.now facts.now moment (T.state tree.old)
-        (drop (length (T.steps tree.old)) (T.steps tree.new)) }
-    // The stop law where the second run reads its lines anew of the tree that was left.
-    ensures anew { IsMendedAnewIn (task_of options.entry.now) options.entry.now facts.now moment (T.state tree.old)
-        (drop (length (T.steps tree.old)) (T.steps tree.new)) }
+    // Crash safety of a run of one phase, of the boot command, and of a run that makes accounts.
+    ensures recovers { RecoversIn (task_of options.entry.now) options.entry.now facts.now moment (T.state tree.old)
+        (steps_done T.Tree tree.old tree.new) }
+    // Crash safety where the second run reads its lines anew of the tree that was left.
+    ensures anew { RecoversAnewIn (task_of options.entry.now) options.entry.now facts.now moment (T.state tree.old)
+        (steps_done T.Tree tree.old tree.new) }
 
     // What it has left as it was at each moment, whatever it answers.
     ensures framed { IsFramedIn (task_of options.entry.now) options.entry.now facts.now moment (T.state tree.old)
-        (drop (length (T.steps tree.old)) (T.steps tree.new)) }
+        (steps_done T.Tree tree.old tree.new) }
     // What creating has left on its way, alone or in the boot command, and what each step gives.
     ensures between { IsOnTheWayIn (task_of options.entry.now) options.entry.now facts.now moment (T.state tree.old)
-        (drop (length (T.steps tree.old)) (T.steps tree.new)) }
+        (steps_done T.Tree tree.old tree.new) }
 {
     match task_of(options) {
         Task::Phases => run_configured_phases(alloc, options, facts, moment, tree, messages),

@@ -26,8 +26,8 @@ pub(crate) struct RunTable {
     pub missing: bool,
 }
 
-/// Reads the configuration of a tree, and says of each line that makes what stands at the path of an earlier one that it
-/// is a duplicate.
+/// Reads the configuration of a tree. Says of each line that makes the object at the path of an earlier one that it is
+/// a duplicate.
 pub(crate) fn read_run<T: Tree>(
     alloc: Global,
     options: &Options,

@@ -2,7 +2,7 @@
 ghost use Rattle.std.specs.Prelude.{◌≡◌, [], IfOk, IsErrOf};
 ghost use Rattle.pv_steps.specs.Counting.{refused, faults_after};
 ghost use Rattle.pv_steps.specs.declared.tree.TreeFault.TheVariants.{Failed};
-ghost use Rattle.provision_run.specs.OverTree.{HasFailed, HasLeft, HasRun, outcome_of};
+ghost use Rattle.provision_run.specs.OverTree.{HasFailedBy, HasLeftBy, HasRunBy, outcome_of};
 
 use crate::ending::RunEnd;
 use crate::lent::Lent;
@@ -26,15 +26,15 @@ pub(crate) fn run_limited<T: Tree>(
 ) -> Result<Outcome, TreeFault>
     requires fresh { T.steps tree.old ≡ [] }
     requires messages_kept { messages.old ≡ [] }
-    ensures run { IfOk result (λ found. HasRun options.entry.now facts.now moment (T.state tree.old) found messages.new (T.state tree.new)) }
+    ensures run { IfOk result (λ found. HasRunBy options.entry.now facts.now moment (T.state tree.old) found messages.new (T.state tree.new) (T.steps tree.new)) }
 
     // A step failed, and not for the limit.
-    ensures failed { IsErrOf result Failed → HasFailed options.entry.now facts.now moment (T.state tree.old) messages.new (T.state tree.new) }
+    ensures failed { IsErrOf result Failed → HasFailedBy options.entry.now facts.now moment (T.state tree.old) messages.new (T.state tree.new) (T.steps tree.new) }
 
     // Whatever it answered, steps of it lead to the tree that it has left.
-    ensures left { HasLeft options.entry.now facts.now moment (T.state tree.old) (T.state tree.new) }
+    ensures left { HasLeftBy options.entry.now facts.now moment (T.state tree.old) (T.state tree.new) (T.steps tree.new) }
 
-    // It counted one fault where a step failed so, else none.
+    // It counted one fault where a step failed so, otherwise none.
     ensures counted { T.faults tree.new ≡ faults_after (refused result) (T.faults tree.old) }
 
     ensures reaches { T.reaches tree.old tree.new }

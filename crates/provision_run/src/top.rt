@@ -16,9 +16,10 @@ use pv_io::{Sink, Source, write_all_of};
 use pv_words::{Rooted, WordsFault, rooted_of};
 use std::alloc::Global;
 
-/// Runs the program: reads an image from the source, carries out what the words ask for at the moment of the
-/// clock, and writes the messages and the image of the tree to the sink (systemd-tmpfiles(8), systemd-sysusers(8)). For
-/// the words `generate SEED COUNT` it runs over a generated tree in place of the source's, and writes three messages.
+/// Runs the program over an image (systemd-tmpfiles(8), systemd-sysusers(8)). It reads the image from the source and
+/// carries out what the words ask for at the moment of the clock. It then writes the messages and the image of the tree
+/// to the sink. For the words `generate SEED COUNT` it runs over a generated tree in place of the source's, and writes
+/// three messages.
 pub fn provision<S: Source, K: Sink>(
     alloc: Global,
     words: &[String],
@@ -44,7 +45,7 @@ pub fn provision<S: Source, K: Sink>(
     // It is on no folder.
     ensures unfolded { is_of_folder result ≡ false }
 
-    // The two ends are blamed only where their counts of faults rose.
+    // The two ends are blamed only if their counts of faults rose.
     ensures read_fault { result ≡ Outcome.ReadFault → HasRisen (S.faults source.old) (S.faults source.new) }
     ensures write_fault { result ≡ Outcome.WriteFault → HasRisen (K.faults sink.old) (K.faults sink.new) }
 {
@@ -58,8 +59,8 @@ pub fn provision<S: Source, K: Sink>(
     }
 }
 
-/// Runs the program: where the words name a folder by `--root`, on this folder of the host, of which messages alone are
-/// written; else as [`provision`] does, and the host is not asked.
+/// Runs the program. If the words name a folder by `--root`, it runs on this folder of the host, and writes the
+/// messages alone. Otherwise it does as [`provision`] does, and does not ask the host.
 pub fn provision_all<S: Source, K: Sink, H: Host>(
     alloc: Global,
     words: &[String],
@@ -72,12 +73,12 @@ pub fn provision_all<S: Source, K: Sink, H: Host>(
     // outcome, and what the host held.
     ensures on_folder { IfSome (rooted_of (map string_bytes words.now)) (λ rooted.
         HasWrittenOn (spelled rooted.folder) rooted.options clock_micros
-        (record { content = H.content host.old; faults = H.faults host.old })
-        (record { content = H.content host.new; faults = H.faults host.new })
+        (record { content = H.content host.old; changes = H.changes host.old; faults = H.faults host.old })
+        (record { content = H.content host.new; changes = H.changes host.new; faults = H.faults host.new })
         result (K.written sink.old) (K.written sink.new)) }
     ensures source_unread { is_some (rooted_of (map string_bytes words.now)) ≡ true → source.new ≡ source.old }
 
-    // The host is blamed only where its count of faults rose, and only of words with a folder.
+    // The host is blamed only if its count of faults rose, and only of words with a folder.
     ensures folder_failed { result ≡ Outcome.FolderFailed → HasRisen (H.faults host.old) (H.faults host.new) }
     ensures rooted { is_of_folder result ≡ true → is_some (rooted_of (map string_bytes words.now)) ≡ true }
 
@@ -93,7 +94,7 @@ pub fn provision_all<S: Source, K: Sink, H: Host>(
         HasWrittenGenerated seed count result (K.written sink.old) (K.written sink.new) }
     ensures input_unread { (seed count : ℕ) → parse_args (map string_bytes words.now) ≡ Some (Generate seed count) → source.new ≡ source.old }
 
-    // The two ends are blamed only where their counts of faults rose.
+    // The two ends are blamed only if their counts of faults rose.
     ensures read_fault { result ≡ Outcome.ReadFault → HasRisen (S.faults source.old) (S.faults source.new) }
     ensures write_fault { result ≡ Outcome.WriteFault → HasRisen (K.faults sink.old) (K.faults sink.new) }
 {
@@ -113,8 +114,8 @@ fn provision_on<K: Sink, H: Host>(
     host: &mut H,
 ) -> Outcome
     ensures written { HasWrittenOn (spelled rooted.now.folder) rooted.now.options clock_micros
-        (record { content = H.content host.old; faults = H.faults host.old })
-        (record { content = H.content host.new; faults = H.faults host.new })
+        (record { content = H.content host.old; changes = H.changes host.old; faults = H.faults host.old })
+        (record { content = H.content host.new; changes = H.changes host.new; faults = H.faults host.new })
         result (K.written sink.old) (K.written sink.new) }
     ensures folder_failed { result ≡ Outcome.FolderFailed → HasRisen (H.faults host.old) (H.faults host.new) }
     ensures write_fault { result ≡ Outcome.WriteFault → HasRisen (K.faults sink.old) (K.faults sink.new) }

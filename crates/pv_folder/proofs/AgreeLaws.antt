@@ -69,27 +69,27 @@ no_other (Some o) e = other_as o.node.kind o.payload e
 Stays : (Object → Object) → Type 0
 Stays f = (o : Object) → real_as (f o).node.kind (f o).payload ≡ real_as o.node.kind o.payload
 
-real-mapped : (f : Object → Object) → ((o : Object) → real_as (f o).node.kind (f o).payload ≡ real_as o.node.kind o.payload) → (o : Option Object)
+pub real-mapped : (f : Object → Object) → ((o : Object) → real_as (f o).node.kind (f o).payload ≡ real_as o.node.kind o.payload) → (o : Option Object)
     → real_of (option_map f o) ≡ real_of o
 real-mapped f stays None = refl
 real-mapped f stays (Some o) = stays o
 
-real-on_at : (p : Path) (f : Object → Object) → ((o : Object) → real_as (f o).node.kind (f o).payload ≡ real_as o.node.kind o.payload) → (t : Places) (q : Path)
+pub real-on_at : (p : Path) (f : Object → Object) → ((o : Object) → real_as (f o).node.kind (f o).payload ≡ real_as o.node.kind o.payload) → (t : Places) (q : Path)
     → real_of (steps.on_at p f t q) ≡ real_of (t q)
 real-on_at p f stays t q =
     elim (same_path p q) as (λ b. real_of (cond b (option_map f (t q)) (t q)) ≡ real_of (t q)) [ true ↦ real-mapped f stays (t q) | false ↦ refl ]
 
-real-touched : (now : ℕ) (p : Path) (t : Places) (q : Path) → real_of (steps.touched now p t q) ≡ real_of (t q)
+pub real-touched : (now : ℕ) (p : Path) (t : Places) (q : Path) → real_of (steps.touched now p t q) ≡ real_of (t q)
 real-touched now p t q = real-on_at (parent_of p) (objects.modified now) (λ o. refl) t q
 
 real-put : (p : Path) (o : Option Object) (t : Places) (q : Path) → real_of (steps.put_at p o t q) ≡ cond (same_path p q) (real_of o) (real_of (t q))
 real-put p o t q =
     elim (same_path p q) as (λ b. real_of (cond b o (t q)) ≡ cond b (real_of o) (real_of (t q))) [ true ↦ refl | false ↦ refl ]
 
-real-made : (now : ℕ) (p : Path) (o : Object) (t : Places) (q : Path) → real_of (steps.made now p o t q) ≡ cond (same_path p q) (real_of (Some o)) (real_of (t q))
+pub real-made : (now : ℕ) (p : Path) (o : Object) (t : Places) (q : Path) → real_of (steps.made now p o t q) ≡ cond (same_path p q) (real_of (Some o)) (real_of (t q))
 real-made now p o t q = real-touched now p (steps.put_at p (Some o) t) q ∙ real-put p (Some o) t q
 
-real-gone : (now : ℕ) (p : Path) (t : Places) (q : Path) → real_of (steps.gone now p t q) ≡ cond (same_path p q) None (real_of (t q))
+pub real-gone : (now : ℕ) (p : Path) (t : Places) (q : Path) → real_of (steps.gone now p t q) ≡ cond (same_path p q) None (real_of (t q))
 real-gone now p t q = real-touched now p (steps.put_at p None t) q ∙ real-put p None t q
 
 module _ (top : Path) (t : Places) (u : Held) (agrees : (path : Path) → u (top ++ path) ≡ real_of (t path)) where
@@ -138,7 +138,7 @@ module _ (top : Path) (t : Places) (u : Held) (agrees : (path : Path) → u (top
       by false e = refl
 
   module _ (tree : IsTreeIn t) where
-    -- nothing lies below what is no directory
+    -- nothing lies below what is not a directory
     nothing_below : (p : Path) → (kind_of (t p) ≡ Some kind.Directory → ⊥) → (name : List ℕ) (rest : Path) → t (p ++ name ∷ rest) ≡ None
     nothing_below p never name rest = by (t (p ++ name ∷ rest)) refl
       where
@@ -149,7 +149,7 @@ module _ (top : Path) (t : Places) (u : Held) (agrees : (path : Path) → u (top
     unreal : (p : Path) → real_of (t p) ≡ None → kind_of (t p) ≡ Some kind.Directory → ⊥
     unreal p none is = let no : None ≡ Some host.Directory = sym none ∙ real_directory (t p) is in cc
 
-    -- something that the host does not have takes the place of what is no directory
+    -- something that the host does not have takes the place of what is not a directory
     replaced : (from to : Path) (now : ℕ) → real_of (t from) ≡ None → (kind_of (t to) ≡ Some kind.Directory → ⊥) → (q : Path)
         → cond (same_path to q) None (real_of (t q)) ≡ real_of (steps.moved now from to t q)
     replaced from to now none never q = by (rest_under to q) refl
@@ -179,7 +179,7 @@ module _ (top : Path) (t : Places) (u : Held) (agrees : (path : Path) → u (top
             let at : real_of (t q) ≡ None = ap (λ (p : Path). real_of (t p)) (rest_under-Some to q (name ∷ rest) e) ∙ ap real_of (nothing_below to never name rest) in
             either (same_path to q) at ∙ sym (ap real_of (nothing_below from (unreal from none) name rest))
 
-    -- what gives way to something that is no directory is none
+    -- what gives way to something that is not a directory is none
     no_directory : (from to : Path) → real_of (t from) ≡ None → steps.Yields t from to → kind_of (t to) ≡ Some kind.Directory → ⊥
     no_directory from to none (steps.absent h) is = let no : None ≡ Some kind.Directory = sym (ap kind_of h) ∙ is in cc
     no_directory from to none (steps.objects f h) is = h.1 is

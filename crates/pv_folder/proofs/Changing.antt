@@ -29,7 +29,7 @@ directory_seen (Some o) e =
     let is : o.node.kind ≡ kind.Directory = cc in
     ap (λ (k : Kind). Some (seen_as k o.payload)) is
 
--- the kind of what a host sees tells the kind of what stands there
+-- the kind of what a host sees tells the kind of the object there
 from_content : (k : Kind) (payload : List ℕ) → host.kind_of (seen_as k payload) ≡ named.Directory → k ≡ kind.Directory
 from_content kind.Directory payload e = refl
 from_content kind.File payload e = cc
@@ -243,7 +243,7 @@ module _ (old : Files) where
   pub can_remove : (path : Path) → May (held (content_of old)) (host.RemoveDir path) → Can (places old) (step.RemoveDir path)
   can_remove path h = (directory_at path h.0, (λ name. absent_at (path ++ name ∷ []) (h.1.0 name), h.1.1))
 
-  -- a file is written where there is room for one, or where one is
+  -- a file is written if there is room for one, or where one is
   pub room_for : (path : Path) (content : List ℕ) → May (held (content_of old)) (host.WriteFile path content) → (trees.IsKind kind.File old path → ⊥) → steps.HasRoom (places old) path
   room_for path content (inl h, place) never = (absent_at path h, directory_at (parent_of path) place.0)
   room_for path content (inr h, place) never = absurd (never (file_at path h))

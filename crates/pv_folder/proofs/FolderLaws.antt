@@ -1,4 +1,4 @@
--- What a folder holds: listings and what stands at each path, and what is real in its tree.
+-- What a folder holds: listings and the object at each path, and what is real in its tree.
 use Rattle.std.proofs.Common.{◌≡◌, ◌≢◌, ◌∙◌, Bool, true, false, cond, ◌&&◌, T, List, [], ◌∷◌, ◌++◌, Option, Some, None, is_some, option_map, refl, sym, ap, subst, ℕ, append_assoc}
 use Rattle.std.specs.List.{cons_option, filter_map}
 use Rattle.std.specs.Ordering.{eq_by_cmp, is_eq, is_lt, ordering_then}
@@ -40,7 +40,7 @@ tied_child p n m = tied-same (p ++ n ∷ []) (p ++ m ∷ []) ∙ by p
     by [] = alone (same_bytes m n) ∙ turned
     by (k ∷ p) = ap (λ b. b && same_path (p ++ m ∷ []) (p ++ n ∷ [])) (same_bytes-refl k) ∙ by p
 
--- the kind that is listed for a name is that of what stands there
+-- the kind that is listed for a name is that of the object there
 named_in : (p : Path) (n : List ℕ) (es : List (Path × HostObject)) → kind_named n (filter_map (item_below p) es) ≡ option_map kind_of (find path_cmp (p ++ n ∷ []) es)
 named_in p n [] = refl
 named_in p n (e ∷ es) = by (child_name p e.0) refl (named_in p n es)
@@ -158,6 +158,6 @@ module _ (folder : Path) where
   pub objects_sorted : (c : Content) → T (is_sorted path_cmp (objects_in folder c))
   objects_sorted c = sorted_in (fin.entries c) (fin.entries_sorted c)
 
-  -- what is found among them is what stands at that path below `tree`
+  -- what is found among them is the object at that path below `tree`
   pub objects_found : (c : Content) (p : Path) → find path_cmp p (objects_in folder c) ≡ held c (tree_path folder ++ p)
   objects_found c p = found_in p (fin.entries c) ∙ sym (fin.get-entries c (tree_path folder ++ p))

@@ -202,7 +202,7 @@ unlisted c (Some host.Directory) path e is = let no : Some (items_in c path) ≡
 unlisted c (Some (host.File b)) path e is = let no : Some kind.File ≡ Some kind.Directory = is in cc
 unlisted c (Some host.Other) path e is = let no : Some kind.Other ≡ Some kind.Directory = is in cc
 
--- what is no directory is not prepared
+-- what is not a directory is not prepared
 pub no_folder : (folder : Path) (c : Content) → IsContent (held c) → listing c folder ≡ None → IsPrepared folder (held c) → ⊥
 no_folder folder c whole none p =
     unlisted c (held c folder) folder none (above (held c) whole [] folder (codes "tree") (directory_present (held c) (tree_path folder) p.tree))

@@ -8,7 +8,7 @@ pub mod Copying
 pub mod MergeLaws
 pub mod MergingLaws
 pub mod FactLaws
-pub mod Spelling
+pub mod SpellingLaws
 pub mod Preorder
 pub mod AskingLaws
 pub mod FolderLaws
@@ -25,4 +25,5 @@ pub mod ClosingLaws
 pub mod PlainGrowth
 pub mod RoomLaws
 pub mod MomentLaws
+pub mod MadeLaws
 pub mod KillLaws

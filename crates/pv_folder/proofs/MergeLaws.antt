@@ -1,4 +1,4 @@
--- Laws of a manifest merged with what is real: what stands at each path, and that it is a tree.
+-- Laws of a manifest merged with what is real: the object at each path, and that it is a tree.
 use Rattle.std.proofs.Common.{◌≡◌, ◌∙◌, ◌⊎◌, inl, inr, Bool, true, false, cond, List, [], ◌++◌, Option, Some, None, is_some, option_map, refl, sym, ap, subst, ℕ, ◌≤◌, lit≤}
 use Rattle.std.specs.FinMap as fin
 use Rattle.pv_acl.specs.Parts.{acl_of_mode, special_of}
@@ -14,7 +14,7 @@ use Rattle.pv_steps.proofs.StepLaws.{among_keys, among_left, among_right, is_amo
 use Rattle.pv_walk.specs.Nodes.{same_kind}
 use Rattle.pv_folder.specs.Merge.{with_metadata, is_real_kind, merged, merged_at, merged_of, plain, plain_mode}
 
--- ---- what stands at each path
+-- ---- the object at each path
 
 -- where something stands, something is real or the manifest says something
 present_of : (m r : Option Object) (p : Option Kind) → is_some (merged_of m r p) ≡ true → (is_some r ≡ true) ⊎ (is_some m ≡ true)

@@ -192,7 +192,7 @@ module _ (manifest real tree next : Files) (p : Path) (o : Object) (es : Entries
   still_real : places tree p ≡ places real p
   still_real = m.ahead p (ap is_some first)
 
-  -- what stands at the path is merged
+  -- the object at the path is merged
   merged_here : merged_of (Some o) (places tree p) (kind_of (places tree (parent_of p))) ≡ merged_at manifest real p
   merged_here =
       ap (λ (r : Option Object). merged_of (Some o) r (kind_of (places tree (parent_of p)))) still_real

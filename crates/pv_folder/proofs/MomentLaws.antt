@@ -6,15 +6,16 @@ use Rattle.pv_path.specs.Paths.{Path, is_prefix, same_path}
 use Rattle.pv_path.proofs.PathLaws.{same_path-no}
 use Rattle.pv_steps.specs.declared.step.Step.{Step}
 use Rattle.pv_steps.specs.Trees.{Files, IsTree, Places, places}
-use Rattle.pv_steps.specs.Steps.{after}
-use Rattle.pv_steps.specs.Runs.{Along, Legal, after_all}
+use Rattle.pv_steps.specs.Steps.{Can, StepFits, after}
+use Rattle.pv_steps.specs.Runs.{after_all}
 use Rattle.pv_steps.proofs.StepLaws.{at_after}
 use Rattle.pv_steps.proofs.TreeLaws.{tree_after}
 use Rattle.pv_folder.specs.Content.{Change, Held, IsDirectory, changed, put_at}
 use Rattle.pv_folder.specs.Content as host
 use Rattle.pv_folder.specs.Folders.{Agrees, IsSameElse, manifest_path, new_manifest_path, real_of, tree_path}
 use Rattle.pv_folder.specs.Keeping.{IsReady, change_for, with_manifest}
-use Rattle.pv_folder.specs.Moments.{IsBetween, all_changed, changes_of, closed, closing, in_closing, in_steps, run_changes}
+use Rattle.pv_folder.specs.Made.{all_changed}
+use Rattle.pv_folder.specs.Moments.{CanBeDone, IsBetween, changes_of, closed, closing, in_closing, in_steps, run_changes}
 use Rattle.pv_folder.proofs.AgreeLaws.{agrees_after, done, same_elsewhere}
 use Rattle.pv_folder.proofs.ClosingLaws.{below_tree, beside_both, beside_new, kept_at, moved_new, put_here}
 use Rattle.pv_folder.proofs.ReadyLaws.{directory_real, stays_ready}
@@ -29,19 +30,19 @@ module _ (folder : Path) (now : ℕ) (bound : now < 2 ^ 64) (text : List ℕ) wh
 
   -- ---- one step
 
-  module _ (t : Files) (u : Held) (tree : IsTree t) (agrees : Agrees folder t u) (ready : IsReady folder u) (step : Step) (legal : Legal t step now)
+  module _ (t : Files) (u : Held) (tree : IsTree t) (agrees : Agrees folder t u) (ready : IsReady folder u) (step : Step) (can : Can (places t) step) (fits : StepFits step)
       (call : Option Change) (is : change_for top (places t) step ≡ call) where
     step_agrees : Agrees folder (after t step now) (done call u)
     step_agrees = λ path.
         ap (λ (c : Option Change). done c u (top ++ path)) (sym is)
-        ∙ agrees_after top (places t) u agrees tree step now legal.can path
+        ∙ agrees_after top (places t) u agrees tree step now can path
         ∙ ap (λ (p : Places). real_of (p path)) (sym (at_after t step now))
 
     step_else : IsSameElse folder u (done call u)
     step_else = λ path out. ap (λ (c : Option Change). done c u path) (sym is) ∙ same_elsewhere top (places t) u path out step
 
     step_tree : IsTree (after t step now)
-    step_tree = tree_after t step now tree legal.can legal.fits bound
+    step_tree = tree_after t step now tree can fits bound
 
     step_ready : IsReady folder (done call u)
     step_ready = stays_ready folder u (done call u) step_else at_root ready
@@ -92,19 +93,19 @@ module _ (folder : Path) (now : ℕ) (bound : now < 2 ^ 64) (text : List ℕ) wh
 
   -- ---- any number of steps
 
-  pub between : (steps : List Step) (t : Files) (u : Held) (n : ℕ) → IsTree t → Along (λ _. Unit {0}) t steps now → Agrees folder t u → IsReady folder u
+  pub between : (steps : List Step) (t : Files) (u : Held) (n : ℕ) → IsTree t → CanBeDone t steps now → Agrees folder t u → IsReady folder u
       → IsBetween folder t steps now text u (all_changed (take n (run_changes folder t steps now text)) u)
-  between [] t u n tree along agrees ready = in_end t u agrees ready n
-  between (step ∷ steps) t u n tree (p, (legal, rest)) agrees ready =
-      by (λ v m here ready_here. between steps (after t step now) v m (tree_after t step now tree legal.can legal.fits bound) rest here ready_here) (change_for top (places t) step) refl n
+  between [] t u n tree able agrees ready = in_end t u agrees ready n
+  between (step ∷ steps) t u n tree (can, (fits, rest)) agrees ready =
+      by (λ v m here ready_here. between steps (after t step now) v m (tree_after t step now tree can fits bound) rest here ready_here) (change_for top (places t) step) refl n
     where
       by : ((v : Held) (m : ℕ) → Agrees folder (after t step now) v → IsReady folder v
           → IsBetween folder (after t step now) steps now text v (all_changed (take m (run_changes folder (after t step now) steps now text)) v)) → (call : Option Change) → change_for top (places t) step ≡ call → (m : ℕ)
           → IsBetween folder t (step ∷ steps) now text u (all_changed (take m ((option_to_list call ++ changes_of top (after t step now) steps now) ++ closing folder text)) u)
       by later None is m =
-          step_before t u tree agrees ready step legal None is steps (all_changed (take m (run_changes folder (after t step now) steps now text)) u)
-          (later u m (step_agrees t u tree agrees ready step legal None is) (step_ready t u tree agrees ready step legal None is))
+          step_before t u tree agrees ready step can fits None is steps (all_changed (take m (run_changes folder (after t step now) steps now text)) u)
+          (later u m (step_agrees t u tree agrees ready step can fits None is) (step_ready t u tree agrees ready step can fits None is))
       by later (Some change) is zero = in_steps 0 agrees (λ path out. refl)
       by later (Some change) is (suc m) =
-          step_before t u tree agrees ready step legal (Some change) is steps (all_changed (take m (run_changes folder (after t step now) steps now text)) (changed change u))
-          (later (changed change u) m (step_agrees t u tree agrees ready step legal (Some change) is) (step_ready t u tree agrees ready step legal (Some change) is))
+          step_before t u tree agrees ready step can fits (Some change) is steps (all_changed (take m (run_changes folder (after t step now) steps now text)) (changed change u))
+          (later (changed change u) m (step_agrees t u tree agrees ready step can fits (Some change) is) (step_ready t u tree agrees ready step can fits (Some change) is))

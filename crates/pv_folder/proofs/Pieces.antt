@@ -28,7 +28,7 @@ module _ (path : Path) (pieces : List (Bor (List ℕ))) (i : ℕ) (d : Bor (List
       ∙ ap (λ rest. path ++ rest) (sym more)
       ∙ so_far
 
-  -- where it is no name, not all are
+  -- if it is not a name, not all are
   pub not_taken : (text : List (List ℕ)) → texts pieces ≡ text → has_names (names_among ((get_or pieces i d).now ∷ [])) ≡ false → has_names (names_among text) ≡ false
   not_taken text cut unfit =
       let one : has_names (path ++ names_among ((get_or pieces i d).now ∷ [])) ≡ false =

@@ -1,4 +1,4 @@
--- Entries in the order of their paths: what stands at a path comes first, then for each child all that stands at and below it.
+-- Entries in the order of their paths: the object at a path comes first, then for each child all that stands at and below it.
 use Rattle.std.proofs.Common.{◌≡◌, ◌∙◌, Bool, true, false, cond, ◌||◌, T, List, [], ◌∷◌, ◌++◌, Option, Some, None, is_some, refl, sym, ap, subst, ℕ, append_assoc, append-nil}
 use Rattle.std.specs.List.{AllByRecursion, flat_map, list_any}
 use Rattle.std.specs.Option.{option_or}
@@ -20,7 +20,7 @@ less-beside : (p : Path) (n m : List ℕ) (r s : Path) → name_cmp n m ≡ Less
 less-beside [] n m r s less = ap (λ o. ordering_then o (path_cmp r s)) less
 less-beside (k ∷ p) n m r s less = ap (λ o. ordering_then o (path_cmp (p ++ n ∷ r) (p ++ m ∷ s))) (name_cmp-refl k) ∙ less-beside p n m r s less
 
--- what stands at or below a child
+-- the object at or below a child
 below-child : (p : Path) (n : List ℕ) (q : Path) → is_prefix (p ++ n ∷ []) q ≡ true → (r : Path) × (q ≡ p ++ n ∷ r)
 below-child p n q h =
     let parts = prefix_parts (p ++ n ∷ []) q h in
@@ -85,11 +85,11 @@ inside p q (m ∷ names) h = by (is_prefix (p ++ m ∷ []) q) refl h (inside p q
     by false e is rest = rest is
 
 module _ {X : Type 0} where
-  -- what stands at and below a path
+  -- what is at and below a path
   abbrev pub under : List (Path × X) → Path → List (Path × X)
   under es p = where_key path_cmp (is_prefix p) es
 
-  -- what stands at and below each of the children with these names
+  -- what is at and below each of the children with these names
   abbrev pub under_each : List (Path × X) → Path → List (List ℕ) → List (Path × X)
   under_each es p names = flat_map (λ n. under es (p ++ n ∷ [])) names
 
@@ -205,7 +205,7 @@ module _ {X : Type 0} where
             ∙ ap (λ b. cond b (find path_cmp p es) None) (is_prefix-refl p) ∙ at
         by false e = by_found (find path_cmp q es) refl e ∙ sym (find_each es p names q)
 
-    -- what stands at and below a path: it, and then what stands at and below each of its children
+    -- what is at and below a path: it, and then what is at and below each of its children
     pub preorder : Rise names → under es p ≡ (p, o) ∷ under_each es p names
     preorder up =
         same_entries path_cmp path_total path_exact (under es p) ((p, o) ∷ under_each es p names) (under_sorted es p rise)

@@ -94,7 +94,7 @@ listed c (Some host.Other) p items e = cc
 
 -- ---- what is still to come
 
--- what stands at and below what was found
+-- what is at and below what was found
 abbrev pub ahead : Path → Content → List Found → List (Path × HostObject)
 ahead folder c next = flat_map (λ x. under (objects_in folder c) (path_of x)) next
 
@@ -141,7 +141,7 @@ module _ (folder : Path) (c : Content) (content : IsContent (held c)) (p : Path)
   closed : (n : List ℕ) (r : Path) → is_some (find path_cmp (p ++ n ∷ r) (objects_in folder c)) ≡ true → is_some (find path_cmp (p ++ n ∷ []) (objects_in folder c)) ≡ true
   closed n r h = there_found (n ∷ []) (child_there (held c) content (tree_path folder ++ p) n r (found_there (n ∷ r) h))
 
-  -- below what is no directory there is nothing
+  -- below what is not a directory there is nothing
   pub alone : (o : HostObject) → held c (tree_path folder ++ p) ≡ Some o → (host.kind_of o ≢ kind.Directory) → under (objects_in folder c) p ≡ (p, o) ∷ []
   alone o is other =
       preorder (objects_in folder c) p o [] (objects_sorted folder c) (objects_found folder c p ∙ is)

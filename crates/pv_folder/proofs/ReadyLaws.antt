@@ -1,5 +1,6 @@
 -- Laws of a folder that is ready for a tree: one that holds a tree is, and it stays so in steps on that tree.
 use Rattle.std.specs.Prelude.{◌≡◌, ℕ, ◌<◌, ◌≤◌, ◌^◌, Bool, true, false, ◌&&◌, List, [], ◌∷◌, ◌++◌, codes, Option, Some, None, is_some, option_map, IfSome}
+use Rattle.std.specs.Option.{option_to_list}
 use Rattle.std.proofs.Common.{refl, sym, ap, subst, ◌∙◌, inl, inr, append_assoc, append-nil}
 use Rattle.std.proofs.lemmas.Option.{same_Some}
 use Rattle.pv_path.specs.Paths.{Path, has_names, is_prefix, parent_of}
@@ -16,7 +17,10 @@ use Rattle.pv_folder.specs.declared.item.HostKind.TheVariants as named
 use Rattle.pv_folder.specs.Content as host
 use Rattle.pv_folder.specs.Content.{Change, Content, Held, HostObject, IsAbsent, IsContent, IsDirectory, IsFile, IsPresent, changed, held}
 use Rattle.pv_folder.specs.Folders.{Agrees, IsFree, IsPrepared, IsSameElse, manifest_path, new_manifest_path, real_as, real_of, tree_path}
-use Rattle.pv_folder.specs.Keeping.{IsAtMostAhead, IsChangedBy, IsReady, IsSameOutside, Keeps, MayAskFor, Moves, ahead, change_for, level}
+use Rattle.pv_folder.specs.Keeping.{HasAsked, IsAtMostAhead, IsChangedBy, IsReady, IsSameOutside, Keeps, MayAskFor, Moves, ahead, all_made, change_for, level, one_more}
+use Rattle.pv_folder.specs.Made.{AreRecorded, HasMade}
+use Rattle.pv_folder.specs.Moving.{same_outside}
+use Rattle.pv_folder.proofs.MadeLaws.{made_asked, made_same}
 use Rattle.pv_folder.proofs.AgreeLaws.{MayDo, agrees_after, done, may_ask, same_elsewhere}
 use Rattle.pv_folder.proofs.BelowLaws.{below_some, beside, longer}
 
@@ -184,12 +188,6 @@ module _ (folder : Path) (files : Files) (s : Step) (now : ℕ) (tree : IsTree f
 
 -- ---- how a step moves a folder
 
--- a step that asked the host for its change
-pub moves_asked : (folder : Path) (t u : Files) (old new : Option Content) (n m : ℕ) (p q : Bool) → IsSameOutside folder old new → n ≤ m → (p ≡ true → q ≡ true)
-    → (q ≡ true → IfSome new (λ c. IsAtMostAhead folder u (held c)))
-    → Moves (record { folder = folder; files = t; content = old; faults = n; pending = p }) (record { folder = folder; files = u; content = new; faults = m; pending = q })
-moves_asked folder t u old new n m p q outside le lasts near = record { same = refl; outside = outside; count = le; lasts = lasts; near = λ h. inr (near h) }
-
 -- a host that has a tree is not ahead of it
 pub is_level : (folder : Path) (files : Files) (content : Option Content) → IfSome content (λ c. Agrees folder files (held c)) → IfSome content (λ c. IsAtMostAhead folder files (held c))
 is_level folder files None agrees = tt
@@ -200,3 +198,60 @@ pub is_ahead : (folder : Path) (files : Files) (step : Step) (now : ℕ) (conten
     → IfSome content (λ c. Agrees folder (after files step now) (held c)) → IfSome content (λ c. IsAtMostAhead folder files (held c))
 is_ahead folder files step now None can agrees = tt
 is_ahead folder files step now (Some c) can agrees = ahead step now can agrees
+
+-- by whether a step had run out of memory before, and has now
+module _ (folder : Path) (t u : Files) (h k : List Step) (old new : Option Content) (l m : Option (List Change)) (n f : ℕ) (was will : Bool)
+    (began : was ≡ false) (up : n ≤ f) where
+  abbrev Moved : Type 0
+  Moved = Moves (record { folder = folder; files = t; steps = h; content = old; changes = l; faults = n; pending = was })
+      (record { folder = folder; files = u; steps = k; content = new; changes = m; faults = f; pending = will })
+
+  lasting : was ≡ true → will ≡ true
+  lasting is = absurd (let no : false ≡ true = sym began ∙ is in cc)
+
+  -- a step that changed nothing, neither in memory nor on the host
+  pub moves_nothing : u ≡ t → k ≡ h → new ≡ old → m ≡ l → (will ≡ true → IfSome new (λ c. Agrees folder u (held c))) → Moved
+  moves_nothing files steps content changes agrees = record {
+    same = refl;
+    outside = subst (λ (o : Option Content). IsSameOutside folder old o) (sym content) (same_outside folder old);
+    count = up;
+    lasts = lasting;
+    near = λ is. inr (is_level folder u new (agrees is));
+    steps = [];
+    recorded = steps ∙ sym (append-nil h);
+    reached = files;
+    asked = all_made began (made_same old new l m content changes);
+  }
+
+  module _ (s : Step) (now : ℕ) (outside : IsSameOutside folder old new) (asked : IsChangedBy (change_for (tree_path folder) (places t) s) old new)
+      (recorded : AreRecorded (option_to_list (change_for (tree_path folder) (places t) s)) l m) where
+    -- one that was done
+    pub moves_done : will ≡ false → u ≡ after t s now → k ≡ h ++ s ∷ [] → Moved
+    moves_done settled files steps = record {
+      same = refl;
+      outside = outside;
+      count = up;
+      lasts = lasting;
+      near = λ is. absurd (let no : false ≡ true = sym settled ∙ is in cc);
+      steps = (s, now) ∷ [];
+      recorded = steps;
+      reached = files;
+      asked = all_made began (subst (λ (made : List Change). HasMade made old new l m) (sym (append-nil (option_to_list (change_for (tree_path folder) (places t) s))))
+          (made_asked old new l m (change_for (tree_path folder) (places t) s) asked recorded));
+    }
+
+    -- one that was done on the host alone
+    pub moves_half : will ≡ true → u ≡ t → k ≡ h → Can (places t) s → StepFits s → IfSome new (λ c. Agrees folder (after t s now) (held c)) → Moved
+    moves_half pending files steps can fits agrees = record {
+      same = refl;
+      outside = outside;
+      count = up;
+      lasts = lasting;
+      near = λ is. inr (subst (λ (v : Files). IfSome new (λ c. IsAtMostAhead folder v (held c))) (sym files) (is_ahead folder t s now new can agrees));
+      steps = [];
+      recorded = steps ∙ sym (append-nil h);
+      reached = files;
+      asked = one_more s began pending (subst (λ (v : Files). Can (places v) s) (sym files) can) fits
+          (subst (λ (v : Files). HasMade (option_to_list (change_for (tree_path folder) (places v) s)) old new l m) (sym files)
+          (made_asked old new l m (change_for (tree_path folder) (places t) s) asked recorded));
+    }

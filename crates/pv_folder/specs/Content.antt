@@ -23,7 +23,7 @@ pub data HostObject : Type 0 where
 abbrev pub Content : Type 0
 Content = fin.FinMap path_cmp HostObject
 
--- what stands at each path
+-- the object at each path
 abbrev pub Held : Type 0
 Held = Path → Option HostObject
 
@@ -45,7 +45,7 @@ kind_of Directory = kind.Directory
 kind_of (File bytes) = kind.File
 kind_of Other = kind.Other
 
--- the kind of what stands at a path, if something does
+-- the kind of the object at a path, if something does
 abbrev pub kind_at : Held → Path → Option HostKind
 kind_at t path = option_map kind_of (t path)
 
@@ -81,7 +81,7 @@ item_below path e = option_map (λ name. record { name = name; kind = kind_of e.
 abbrev pub items_in : Content → Path → List HostItem
 items_in content path = filter_map (item_below path) (fin.entries content)
 
--- the listing of the directory at a path; nothing where none is there
+-- the listing of the directory at a path; nothing if none is there
 abbrev pub listing_of : Content → Option HostObject → Path → Option (List HostItem)
 listing_of content (Some Directory) path = Some (items_in content path)
 listing_of content o path = None
@@ -89,7 +89,7 @@ listing_of content o path = None
 abbrev pub listing : Content → Path → Option (List HostItem)
 listing content path = listing_of content (held content path) path
 
--- the bytes of a file; nothing where an object is none
+-- the bytes of a file; nothing if an object is none
 abbrev pub bytes_of : Option HostObject → Option (List ℕ)
 bytes_of (Some (File bytes)) = Some bytes
 bytes_of o = None
@@ -117,7 +117,7 @@ pub data Change : Type 0 where
 abbrev pub HasPlace : Held → Path → Type 0
 HasPlace t path = IsDirectory t (parent_of path) × (has_names path ≡ true)
 
--- what is there, and is no directory
+-- what is there, and is not a directory
 abbrev pub IsNoDirectory : Held → Path → Type 0
 IsNoDirectory t path = IsPresent t path × (kind_at t path ≢ Some kind.Directory)
 

@@ -1,16 +1,17 @@
 -- A tree kept in memory and in a folder of a host: what each of its steps asks of the host, what stays as it is, and what
 -- closing the folder leaves there.
-use Rattle.std.specs.Prelude.{◌≡◌, ◌≢◌, ◌⊎◌, ℕ, ◌≤◌, Bool, true, List, [], ◌∷◌, ◌++◌, Option, Some, None, option_map, IfSome}
-use Rattle.std.proofs.Common.{refl, subst, sym, ◌∙◌, arith, inl, inr}
+use Rattle.std.specs.Prelude.{◌≡◌, ◌≢◌, ◌⊎◌, ℕ, ◌≤◌, Bool, true, false, List, [], ◌∷◌, ◌++◌, map, Option, Some, None, option_map, IfSome}
+use Rattle.std.specs.Option.{option_to_list}
 use Rattle.pv_path.specs.Paths.{Path, has_names}
 use Rattle.pv_steps.specs.declared.step.Step.{Step}
 use Rattle.pv_steps.specs.declared.step.Step.TheVariants.{MakeDir, MakeFile, Write, Rename, Unlink, RemoveDir}
 use Rattle.pv_steps.specs.Trees.{Files, Places, places}
-use Rattle.pv_steps.specs.Steps.{Can, after}
+use Rattle.pv_steps.specs.Steps.{Can, StepFits, after}
 use Rattle.pv_text.specs.Facts.{Values}
 use Rattle.pv_folder.specs.Content.{Change, Content, Held, HostObject, IsAbsent, IsChanged, IsContent, IsDirectory, MayAsk, held, put_at}
 use Rattle.pv_folder.specs.Content as host
-use Rattle.pv_folder.specs.Folders.{Agrees, IsPrepared, IsSameElse, manifest_path, new_manifest_path, real_of}
+use Rattle.pv_folder.specs.Folders.{Agrees, IsPrepared, IsSameElse, manifest_path, new_manifest_path, real_of, tree_path}
+use Rattle.pv_folder.specs.Made.{HasMade}
 use Rattle.pv_folder.specs.Manifest.{manifest_of}
 
 -- ---- a tree in memory and in a folder
@@ -57,10 +58,20 @@ abbrev pub MayAskFor : Option Content → Option Change → Type 0
 MayAskFor content (Some change) = MayAsk content change
 MayAskFor content None = Unit {0}
 
--- a host's content has changed so; where there is no change it is as before
+-- a host's content has changed so; if there is no change it is as before
 abbrev pub IsChangedBy : Option Change → Option Content → Option Content → Type 0
 IsChangedBy (Some change) old new = IsChanged change old new
 IsChangedBy None old new = new ≡ old
+
+-- steps, each with its moment, done one after the other
+abbrev pub after_steps : Files → List (Step × ℕ) → Files
+after_steps t [] = t
+after_steps t ((step, now) ∷ steps) = after_steps (after t step now) steps
+
+-- the changes that they ask of a host which has the tree at a path, at most one each
+abbrev pub changes_for : Path → Files → List (Step × ℕ) → List Change
+changes_for top t [] = []
+changes_for top t ((step, now) ∷ steps) = option_to_list (change_for top (places t) step) ++ changes_for top (after t step now) steps
 
 -- ---- what stays as it is
 
@@ -75,14 +86,25 @@ pub data IsAtMostAhead (folder : Path) (files : Files) (t : Held) : Type 0 where
   level : Agrees folder files t → IsAtMostAhead folder files t
   ahead : (step : Step) (now : ℕ) → Can (places files) step → Agrees folder (after files step now) t → IsAtMostAhead folder files t
 
--- a tree in a folder of a host: the folder's path, the tree in memory, what the host tells of its content, its count of faults, and
--- whether a step has run out of memory
+-- a tree in a folder of a host: the folder's path, the tree in memory and the steps that it has recorded, what the host tells of
+-- its content and of the changes that it has made, its count of faults, and whether a step has run out of memory
 pub record FolderState : Type 0 where
   pub folder : Path
   pub files : Files
+  pub steps : List Step
   pub content : Option Content
+  pub changes : Option (List Change)
   pub faults : ℕ
   pub pending : Bool
+
+-- what the host was asked for where steps were done on the tree in memory: it has made their changes, in order, and no others; or
+-- also that of one step more, which could be done, and of which memory ran out; or memory had run out before, and nothing is done
+pub data HasAsked (steps : List (Step × ℕ)) (a b : FolderState) : Type 0 where
+  all_made : a.pending ≡ false → HasMade (changes_for (tree_path a.folder) a.files steps) a.content b.content a.changes b.changes → HasAsked steps a b
+  one_more : (step : Step) → a.pending ≡ false → b.pending ≡ true → Can (places b.files) step → StepFits step
+      → HasMade (changes_for (tree_path a.folder) a.files steps ++ option_to_list (change_for (tree_path a.folder) (places b.files) step)) a.content b.content a.changes b.changes
+      → HasAsked steps a b
+  at_rest : a.pending ≡ true → steps ≡ [] → b.content ≡ a.content → b.changes ≡ a.changes → HasAsked steps a b
 
 -- nothing has changed since a step ran out of memory
 pub record IsAtRest (a b : FolderState) : Type 0 where
@@ -91,60 +113,18 @@ pub record IsAtRest (a b : FolderState) : Type 0 where
   pub content : b.content ≡ a.content
 
 -- how steps move a tree in a folder of a host: the folder is the same and all outside of its `tree`, the host's count of faults
--- never falls, and a step that has run out of memory is never forgotten: the host is then at most one step ahead
+-- never falls, and a step that has run out of memory is never forgotten: the host is then at most one step ahead. Steps were done
+-- in memory and recorded, and the host has made their changes and no others
 pub record Moves (a b : FolderState) : Type 0 where
   pub same : b.folder ≡ a.folder
   pub outside : IsSameOutside a.folder a.content b.content
   pub count : a.faults ≤ b.faults
   pub lasts : a.pending ≡ true → b.pending ≡ true
   pub near : b.pending ≡ true → IsAtRest a b ⊎ IfSome b.content (λ c. IsAtMostAhead a.folder b.files (held c))
-
--- over any number of steps: none, and one run of steps after another
-pub same_outside : (folder : Path) (old : Option Content) → IsSameOutside folder old old
-same_outside folder (Some c) = λ path out. refl
-same_outside folder None = refl
-
-pub outside_on : (folder : Path) (a b c : Option Content) → IsSameOutside folder a b → IsSameOutside folder b c → IsSameOutside folder a c
-outside_on folder (Some a) (Some b) (Some c) p q = λ path out. q path out ∙ p path out
-outside_on folder (Some a) (Some b) None p q = absurd q
-outside_on folder (Some a) None c p q = absurd p
-outside_on folder None b c p q = subst (λ (o : Option Content). IsSameOutside folder o c) p q
-
-pub moves_none : (a : FolderState) → Moves a a
-moves_none a = record {
-  same = refl;
-  outside = same_outside a.folder a.content;
-  count = omega arith;
-  lasts = λ h. h;
-  near = λ h. inl (record { pending = h; files = refl; content = refl });
-}
-
-near_on : (a b c : FolderState) → Moves a b → IsAtRest b c → IsAtRest a b ⊎ IfSome b.content (λ x. IsAtMostAhead a.folder b.files (held x))
-    → IsAtRest a c ⊎ IfSome c.content (λ x. IsAtMostAhead a.folder c.files (held x))
-near_on a b c first rest (inl before) = inl (record { pending = before.pending; files = rest.files ∙ before.files; content = rest.content ∙ before.content })
-near_on a b c first rest (inr near) =
-    inr (subst (λ (t : Files). IfSome c.content (λ x. IsAtMostAhead a.folder t (held x))) (sym rest.files)
-    (subst (λ (o : Option Content). IfSome o (λ x. IsAtMostAhead a.folder b.files (held x))) (sym rest.content) near))
-
-pub moves_on : (a b c : FolderState) → Moves a b → Moves b c → Moves a c
-moves_on a b c first last = record {
-  same = last.same ∙ first.same;
-  outside = outside_on a.folder a.content b.content c.content first.outside (subst (λ (x : Path). IsSameOutside x b.content c.content) first.same last.outside);
-  count = omega (arith, first.count, last.count);
-  lasts = λ h. last.lasts (first.lasts h);
-  near = λ h. by (last.near h);
-}
-  where
-    by : IsAtRest b c ⊎ IfSome c.content (λ x. IsAtMostAhead b.folder c.files (held x)) → IsAtRest a c ⊎ IfSome c.content (λ x. IsAtMostAhead a.folder c.files (held x))
-    by (inl rest) = near_on a b c first rest (first.near rest.pending)
-    by (inr near) = inr (subst (λ (f : Path). IfSome c.content (λ x. IsAtMostAhead f c.files (held x))) first.same near)
-
--- a reference that is still the same, and one that is the same as before
-pub same : {X : Type 0} (a : X) → a ≡ a
-same a = refl
-
-pub same_on : {X : Type 0} (a b c : X) → b ≡ a → c ≡ b → c ≡ a
-same_on a b c p q = q ∙ p
+  pub steps : List (Step × ℕ)
+  pub recorded : b.steps ≡ a.steps ++ map (λ s. s.0) steps
+  pub reached : b.files ≡ after_steps a.files steps
+  pub asked : HasAsked steps a b
 
 -- ---- closing
 

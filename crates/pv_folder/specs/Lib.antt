@@ -1,4 +1,5 @@
 pub mod Content
+pub mod Made
 pub mod Lists
 pub mod Memory
 pub mod Counts
@@ -8,5 +9,6 @@ pub mod Folders
 pub mod Opening
 pub mod Reading
 pub mod Keeping
+pub mod Moving
 pub mod Sole
 pub mod Moments

@@ -10,6 +10,8 @@ use Rattle.pv_steps.specs.Trees.{Files, places}
 use Rattle.pv_folder.specs.declared.item.HostItem.{HostItem}
 use Rattle.pv_folder.specs.declared.item.HostKind.{HostKind}
 use Rattle.pv_folder.specs.declared.item.HostKind.TheVariants as named
+use Rattle.pv_folder.specs.declared.change.HostChange.{HostChange}
+use Rattle.pv_folder.specs.declared.change.HostChange.TheVariants as record_of
 use Rattle.pv_folder.specs.Content.{Change, Content, HostObject, changed, held}
 use Rattle.pv_folder.specs.Content as host
 
@@ -39,3 +41,11 @@ item_at files path name = record { name = name; kind = option_map_or (λ o. host
 -- a tree has become what a change leaves of it, as a host sees both
 abbrev pub Becomes : Change → Files → Files → Type 0
 Becomes change old new = held (content_of new) ≡ changed change (held (content_of old))
+
+-- a change as it was recorded
+abbrev pub change_of : HostChange → Change
+change_of (record_of.MakeDir path) = host.MakeDir path
+change_of (record_of.WriteFile path bytes) = host.WriteFile path bytes
+change_of (record_of.Rename from to) = host.Rename from to
+change_of (record_of.RemoveFile path) = host.RemoveFile path
+change_of (record_of.RemoveDir path) = host.RemoveDir path

@@ -17,7 +17,7 @@ plain_mode Directory = 0o755
 plain_mode Link = 0o777
 plain_mode kind = 0o644
 
--- a real object of which the manifest says nothing: owned by root, without extended attributes and letters, stamps 0
+-- a real object of which the manifest says nothing: owned by root, without extended attributes and letters, timestamps 0
 abbrev pub plain : Object → Object
 plain r = fresh r.node.kind (plain_mode r.node.kind) r.payload r.node.major r.node.minor 0
 
@@ -32,7 +32,7 @@ is_real_kind Directory = true
 is_real_kind File = true
 is_real_kind kind = false
 
--- what stands at a path of which the manifest says this, at which this is real, in what is really of this kind
+-- the object at a path of which the manifest says this, at which this is real, in what is really of this kind
 abbrev pub merged_of : Option Object → Option Object → Option Kind → Option Object
 merged_of m (Some r) parent = Some (with_metadata (option_map (λ o. o.node) m) r)
 merged_of (Some m) None (Some Directory) = if is_real_kind m.node.kind then None else Some m

@@ -5,9 +5,9 @@ use Rattle.std.specs.FinMap as fin
 use Rattle.pv_path.specs.Paths.{Path, is_prefix}
 use Rattle.pv_steps.specs.declared.step.Step.{Step}
 use Rattle.pv_steps.specs.Trees.{Files, places, tabulate}
-use Rattle.pv_steps.specs.Steps.{after}
+use Rattle.pv_steps.specs.Steps.{Can, StepFits, after}
 use Rattle.pv_steps.specs.Runs.{after_all}
-use Rattle.pv_folder.specs.Content.{Change, Held, changed}
+use Rattle.pv_folder.specs.Content.{Change, Held}
 use Rattle.pv_folder.specs.Content as host
 use Rattle.pv_folder.specs.Folders.{Agrees, IsSameElse, manifest_path, new_manifest_path, object_of, real_of, tree_path}
 use Rattle.pv_folder.specs.Keeping.{change_for}
@@ -27,10 +27,10 @@ closing folder text = host.WriteFile (new_manifest_path folder) text ∷ host.Re
 abbrev pub run_changes : Path → Files → List Step → ℕ → List ℕ → List Change
 run_changes folder t steps now text = changes_of (tree_path folder) t steps now ++ closing folder text
 
--- what changes leave, one after the other
-abbrev pub all_changed : List Change → Held → Held
-all_changed [] t = t
-all_changed (change ∷ changes) t = all_changed changes (changed change t)
+-- steps that can be done one after the other
+abbrev pub CanBeDone : Files → List Step → ℕ → Type 0
+CanBeDone t [] now = Unit {0}
+CanBeDone t (step ∷ steps) now = Can (places t) step × (StepFits step × CanBeDone (after t step now) steps now)
 
 -- ---- what the folder then holds
 

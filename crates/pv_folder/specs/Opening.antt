@@ -112,7 +112,7 @@ abbrev pub SaysRead : Option (List ℕ) → Values → Files → Type 0
 SaysRead (Some bytes) facts files = IsImage bytes facts files
 SaysRead None facts files = ⊥
 
--- why nothing is said by a manifest that was listed, of which this was read: it was gone, which makes it odd; or it is no image;
+-- why nothing is said by a manifest that was listed, of which this was read: it was gone, which makes it odd; or it is not an image;
 -- or memory ran out
 abbrev pub IsUnsaid : Option (List ℕ) → OpenFault → Type 0
 IsUnsaid (Some bytes) fault = (f : ImageFault) × (fault ≡ of_image f) × (f ≢ image_fault.Memory → HasImageFault bytes f)

@@ -1,4 +1,4 @@
--- The tree of a folder as it is gone through: what listings name and what stands there.
+-- The tree of a folder as it is gone through: what listings name and the object there.
 use Rattle.std.specs.Prelude.{◌≡◌, ℕ, Bool, true, false, ◌&&◌, codes, List, [], ◌∷◌, ◌++◌, length, map, Option, Some, None, if◌then◌else◌}
 use Rattle.pv_path.specs.Names.{same_bytes}
 use Rattle.pv_path.specs.Paths.{Path}

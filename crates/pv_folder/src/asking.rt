@@ -1,5 +1,6 @@
 //! What a step on a tree asks of the host that has it in a folder.
 ghost use Rattle.std.specs.Prelude.{◌≡◌, ◌↔◌, ◌≤◌, ◌++◌, is_some, IsTrue, OnOk, OnErr, IsErrOf};
+ghost use Rattle.std.specs.Option.{option_to_list};
 ghost use Rattle.pv_io.specs.Faults.{HasRisen};
 ghost use Rattle.pv_steps.specs.declared.node.Kind.TheVariants.{File};
 ghost use Rattle.pv_steps.specs.Trees.{IsKind, places};
@@ -8,6 +9,7 @@ ghost use Rattle.pv_folder.specs.Content.{spelled};
 ghost use Rattle.pv_folder.specs.Counts.{count_after};
 ghost use Rattle.pv_folder.specs.Folders.{real_of, tree_path};
 ghost use Rattle.pv_folder.specs.Keeping.{IsChangedBy, MayAskFor, change_for, move, removal};
+ghost use Rattle.pv_folder.specs.Made.{AreRecorded};
 
 use crate::host::{Host, HostFault};
 use crate::host_path::host_path;
@@ -36,7 +38,7 @@ fn is_file(tree: &MemTree, path: &TreePath) -> bool
     }
 }
 
-/// Removes what stands at a path, where it is a file.
+/// Removes the object at a path, if it is a file.
 fn remove_file<H: Host>(
     alloc: Global,
     host: &mut H,
@@ -50,6 +52,10 @@ fn remove_file<H: Host>(
         (removal (tree_path (spelled folder.now) ++ path.now) (real_of (places tree.now.files path.now)))
         (H.content host.old) (H.content host.new)) }
     ensures kept { OnErr result (H.content host.new ≡ H.content host.old) }
+    ensures recorded { OnOk result (AreRecorded
+        (option_to_list (removal (tree_path (spelled folder.now) ++ path.now) (real_of (places tree.now.files path.now))))
+        (H.changes host.old) (H.changes host.new)) }
+    ensures unrecorded { OnErr result (H.changes host.new ≡ H.changes host.old) }
     ensures cause { IsErrOf result Failed → HasRisen (H.faults host.old) (H.faults host.new) }
     ensures never_falls { H.faults host.old ≤ H.faults host.new }
     ensures count { H.faults host.new ≡ count_after result (H.faults host.old) }
@@ -67,7 +73,8 @@ struct Move<'a> {
     to: &'a TreePath,
 }
 
-/// Moves what stands at a path, where it is a directory or a file; else it may take the place of a file.
+/// Renames the object at a path, if it is a directory or a file. Otherwise the rename may take the place of a file,
+/// which is removed.
 fn rename<H: Host>(
     alloc: Global,
     host: &mut H,
@@ -83,6 +90,11 @@ fn rename<H: Host>(
         (real_of (places tree.now.files paths.entry.from.now)) (real_of (places tree.now.files paths.entry.to.now)))
         (H.content host.old) (H.content host.new)) }
     ensures kept { OnErr result (H.content host.new ≡ H.content host.old) }
+    ensures recorded { let top = tree_path (spelled folder.now) in
+        OnOk result (AreRecorded (option_to_list (move (top ++ paths.entry.from.now) (top ++ paths.entry.to.now)
+        (real_of (places tree.now.files paths.entry.from.now)) (real_of (places tree.now.files paths.entry.to.now))))
+        (H.changes host.old) (H.changes host.new)) }
+    ensures unrecorded { OnErr result (H.changes host.new ≡ H.changes host.old) }
     ensures cause { IsErrOf result Failed → HasRisen (H.faults host.old) (H.faults host.new) }
     ensures never_falls { H.faults host.old ≤ H.faults host.new }
     ensures count { H.faults host.new ≡ count_after result (H.faults host.old) }
@@ -109,6 +121,10 @@ pub(crate) fn ask_for<H: Host>(
         (change_for (tree_path (spelled folder.now)) (places tree.now.files) step.now)
         (H.content host.old) (H.content host.new)) }
     ensures kept { OnErr result (H.content host.new ≡ H.content host.old) }
+    ensures recorded { OnOk result (AreRecorded
+        (option_to_list (change_for (tree_path (spelled folder.now)) (places tree.now.files) step.now))
+        (H.changes host.old) (H.changes host.new)) }
+    ensures unrecorded { OnErr result (H.changes host.new ≡ H.changes host.old) }
     ensures cause { IsErrOf result Failed → HasRisen (H.faults host.old) (H.faults host.new) }
     ensures never_falls { H.faults host.old ≤ H.faults host.new }
     ensures count { H.faults host.new ≡ count_after result (H.faults host.old) }

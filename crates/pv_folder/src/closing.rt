@@ -1,9 +1,11 @@
 //! Closing a folder: its manifest is written anew.
-ghost use Rattle.std.specs.Prelude.{◌≡◌, ◌≤◌, OnOk, OnErr, IfSome};
+ghost use Rattle.std.specs.Prelude.{◌≡◌, ◌≤◌, ℕ, take, OnOk, OnErr, IfSome};
 ghost use Rattle.pv_folder.specs.Content.{held, spelled};
 ghost use Rattle.pv_folder.specs.Counts.{count_after};
-ghost use Rattle.pv_folder.specs.Manifest.{IsManifest};
+ghost use Rattle.pv_folder.specs.Manifest.{IsManifest, manifest_of};
 ghost use Rattle.pv_folder.specs.Keeping.{HasManifest, IsClosed, IsReady, IsSameButNew};
+ghost use Rattle.pv_folder.specs.Made.{HasMade};
+ghost use Rattle.pv_folder.specs.Moments.{closing};
 
 use crate::folder_tree::FolderTree;
 use crate::host::{Host, HostFault};
@@ -23,6 +25,10 @@ pub(crate) fn replace_manifest<H: Host>(
     requires { IfSome (H.content host.old) (λ c. IsReady (spelled folder.now) (held c)) }
     ensures done { OnOk result (HasManifest (spelled folder.now) text.now (H.content host.old) (H.content host.new)) }
     ensures kept { OnErr result (IsSameButNew (spelled folder.now) (H.content host.old) (H.content host.new)) }
+    ensures asked { OnOk result (HasMade (closing (spelled folder.now) text.now)
+        (H.content host.old) (H.content host.new) (H.changes host.old) (H.changes host.new)) }
+    ensures part { OnErr result ((k : ℕ) × ((k ≤ 1) × HasMade (take k (closing (spelled folder.now) text.now))
+        (H.content host.old) (H.content host.new) (H.changes host.old) (H.changes host.new))) }
     ensures ready { IfSome (H.content host.new) (λ c. IsReady (spelled folder.now) (held c)) }
     ensures never_falls { H.faults host.old ≤ H.faults host.new }
     ensures count { H.faults host.new ≡ count_after result (H.faults host.old) }
@@ -45,6 +51,12 @@ pub fn close_folder<H: Host>(
     ensures image { OnOk result (IsManifest facts.now tree.old.tree.files) }
     ensures kept { OnErr result (IsSameButNew (spelled tree.old.folder.items)
         (H.content tree.old.host.now) (H.content tree.new.host.now)) }
+
+    // The host has made the two changes that close the folder and no others; after a fault none of them or the first.
+    ensures asked { OnOk result (HasMade (closing (spelled tree.old.folder.items) (manifest_of facts.now tree.old.tree.files))
+        (H.content tree.old.host.now) (H.content tree.new.host.now) (H.changes tree.old.host.now) (H.changes tree.new.host.now)) }
+    ensures part { OnErr result ((k : ℕ) × ((k ≤ 1) × HasMade (take k (closing (spelled tree.old.folder.items) (manifest_of facts.now tree.old.tree.files)))
+        (H.content tree.old.host.now) (H.content tree.new.host.now) (H.changes tree.old.host.now) (H.changes tree.new.host.now))) }
     ensures never_falls { H.faults tree.old.host.now ≤ H.faults tree.new.host.now }
     ensures count { H.faults tree.new.host.now ≡ count_after result (H.faults tree.old.host.now) }
     ensures host { tree.new.host.ghost_name ≡ tree.old.host.ghost_name }

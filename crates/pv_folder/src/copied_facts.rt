@@ -5,7 +5,7 @@ ghost use Rattle.std.specs.FinMap as fin;
 use pv_text::{FACT_LETTERS, Facts};
 use std::alloc::{AllocError, Global};
 
-/// Gives a letter the value that it has among other facts, where it has one.
+/// Gives a letter the value that it has among other facts, if it has one.
 fn copy_fact(copy: &mut Facts, facts: &Facts, letter: u8) -> Result<(), AllocError>
     requires { fin.get copy.old letter ≡ None }
     ensures { OnOk result ((l : ℕ) →

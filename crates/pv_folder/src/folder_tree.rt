@@ -1,5 +1,6 @@
 //! A tree in memory that a folder of a host has too.
-ghost use Rattle.std.specs.Prelude.{◌≡◌, ◌++◌, ◌∷◌, [], ◌≤◌, true, false, length, IfSome, OnOk, OnErr, IsErrOf, Err};
+ghost use Rattle.std.specs.Prelude.{◌≡◌, ◌++◌, ◌∷◌, [], ◌≤◌, ℕ, true, false, length, take, IfSome, OnOk, OnErr, IsErrOf, Err};
+ghost use Rattle.std.specs.Option.{option_to_list};
 ghost use Rattle.pv_steps.specs.declared.tree.TreeFault.TheVariants.{Failed, Memory};
 ghost use Rattle.pv_steps.specs.Trees.{IsTree, places};
 ghost use Rattle.pv_steps.specs.Steps.{Can, StepFits, after};
@@ -7,7 +8,10 @@ ghost use Rattle.pv_steps.specs.Counting.{refused, faults_after};
 ghost use Rattle.pv_folder.specs.Content.{held, spelled};
 ghost use Rattle.pv_folder.specs.Counts.{count_after};
 ghost use Rattle.pv_folder.specs.Folders.{Agrees, tree_path};
-ghost use Rattle.pv_folder.specs.Keeping.{HasManifest, IsChangedBy, IsReady, IsSameButNew, Keeps, Moves, change_for, moves_none, moves_on, same, same_on};
+ghost use Rattle.pv_folder.specs.Keeping.{HasManifest, IsChangedBy, IsReady, IsSameButNew, Keeps, Moves, change_for};
+ghost use Rattle.pv_folder.specs.Made.{AreRecorded, HasMade};
+ghost use Rattle.pv_folder.specs.Moments.{closing};
+ghost use Rattle.pv_folder.specs.Moving.{moves_none, moves_on, same, same_on};
 ghost use Rattle.pv_folder.specs.Sole.{agrees_prop, ready_prop};
 
 use crate::asking::ask_for;
@@ -93,6 +97,10 @@ impl<'a, H: Host> FolderTree<'a, H> {
             (H.content self.old.host.now) (H.content self.new.host.now)) }
         ensures kept { OnErr result (IsSameButNew (spelled self.old.folder.items)
             (H.content self.old.host.now) (H.content self.new.host.now)) }
+        ensures asked { OnOk result (HasMade (closing (spelled self.old.folder.items) text.now)
+            (H.content self.old.host.now) (H.content self.new.host.now) (H.changes self.old.host.now) (H.changes self.new.host.now)) }
+        ensures part { OnErr result ((k : ℕ) × ((k ≤ 1) × HasMade (take k (closing (spelled self.old.folder.items) text.now))
+            (H.content self.old.host.now) (H.content self.new.host.now) (H.changes self.old.host.now) (H.changes self.new.host.now))) }
         ensures never_falls { H.faults self.old.host.now ≤ H.faults self.new.host.now }
         ensures count { H.faults self.new.host.now ≡ count_after result (H.faults self.old.host.now) }
         ensures host { self.new.host.ghost_name ≡ self.old.host.ghost_name }
@@ -114,8 +122,8 @@ impl<'a, H: Host> Tree for FolderTree<'a, H> {
     ghost refused_at = { λ t. t.refused_at };
 
     ghost reaches = { λ a b. (b.host.ghost_name ≡ a.host.ghost_name)
-        × Moves (record { folder = spelled a.folder.items; files = a.tree.files; content = H.content a.host.now; faults = H.faults a.host.now; pending = a.pending })
-        (record { folder = spelled b.folder.items; files = b.tree.files; content = H.content b.host.now; faults = H.faults b.host.now; pending = b.pending }) };
+        × Moves (record { folder = spelled a.folder.items; files = a.tree.files; steps = a.tree.steps; content = H.content a.host.now; changes = H.changes a.host.now; faults = H.faults a.host.now; pending = a.pending })
+        (record { folder = spelled b.folder.items; files = b.tree.files; steps = b.tree.steps; content = H.content b.host.now; changes = H.changes b.host.now; faults = H.faults b.host.now; pending = b.pending }) };
 
     fn look(&self, path: &TreePath) -> Option<&Node> {
         self.tree.node_at(path)
@@ -141,8 +149,8 @@ impl<'a, H: Host> Tree for FolderTree<'a, H> {
         ensures unrecorded { OnErr result (self.new.tree.steps ≡ self.old.tree.steps) }
         ensures fits { StepFits step.now }
         ensures reaches { (self.new.host.ghost_name ≡ self.old.host.ghost_name)
-            × Moves (record { folder = spelled self.old.folder.items; files = self.old.tree.files; content = H.content self.old.host.now; faults = H.faults self.old.host.now; pending = self.old.pending })
-            (record { folder = spelled self.new.folder.items; files = self.new.tree.files; content = H.content self.new.host.now; faults = H.faults self.new.host.now; pending = self.new.pending }) }
+            × Moves (record { folder = spelled self.old.folder.items; files = self.old.tree.files; steps = self.old.tree.steps; content = H.content self.old.host.now; changes = H.changes self.old.host.now; faults = H.faults self.old.host.now; pending = self.old.pending })
+            (record { folder = spelled self.new.folder.items; files = self.new.tree.files; steps = self.new.tree.steps; content = H.content self.new.host.now; changes = H.changes self.new.host.now; faults = H.faults self.new.host.now; pending = self.new.pending }) }
         ensures counted { H.faults self.new.host.now ≡ faults_after (refused result) (H.faults self.old.host.now) }
         ensures last { IsErrOf result Failed → self.new.refused_at ≡ length self.new.tree.steps }
 
@@ -151,6 +159,12 @@ impl<'a, H: Host> Tree for FolderTree<'a, H> {
             (change_for (tree_path (spelled self.old.folder.items)) (places self.old.tree.files) step.now)
             (H.content self.old.host.now) (H.content self.new.host.now)) }
         ensures unchanged { IsErrOf result Failed → H.content self.new.host.now ≡ H.content self.old.host.now }
+
+        // The host has made this change and no other, or none.
+        ensures asked { OnOk result (AreRecorded
+            (option_to_list (change_for (tree_path (spelled self.old.folder.items)) (places self.old.tree.files) step.now))
+            (H.changes self.old.host.now) (H.changes self.new.host.now)) }
+        ensures unasked { IsErrOf result Failed → H.changes self.new.host.now ≡ H.changes self.old.host.now }
 
         // Once a step has run out of memory, each further one does, and the host is not asked.
         ensures pending { IsErrOf result Memory → self.new.pending ≡ true }

@@ -1,10 +1,11 @@
 //! What a host can do.
-ghost use Rattle.std.specs.Prelude.{◌≡◌, ◌≤◌, ℕ, Option, option_map, IfOk, IfSome, OnOk, OnErr, IsErrOf};
+ghost use Rattle.std.specs.Prelude.{◌≡◌, ◌≤◌, ◌∷◌, [], ℕ, List, Option, option_map, IfOk, IfSome, OnOk, OnErr, IsErrOf};
 ghost use Rattle.pv_io.specs.Faults.{HasRisen};
 ghost use Rattle.pv_folder.specs.declared.host.HostFault.TheVariants.{Failed, Memory};
-ghost use Rattle.pv_folder.specs.Content.{Content, IsChanged, IsContent, MayAsk, bytes_of, given, held, listing, spelled, within};
+ghost use Rattle.pv_folder.specs.Content.{Change, Content, IsChanged, IsContent, MayAsk, bytes_of, given, held, listing, spelled, within};
 ghost use Rattle.pv_folder.specs.Counts.{count_after};
 ghost use Rattle.pv_folder.specs.Content.Change.{MakeDir, RemoveDir, RemoveFile, Rename, WriteFile};
+ghost use Rattle.pv_folder.specs.Made.{AreRecorded};
 
 use crate::item::HostList;
 use std::alloc::{AllocError, AllocFailed, Global};
@@ -58,34 +59,39 @@ pub(crate) fn limited(bytes: Vec<u8>, most: usize) -> FileBytes
 
 /// A host: the directories and files of a machine, or what stands for them.
 ///
-/// It may tell what it holds, and it has a count of faults that never falls: a call that answers `Failed` counts one, and
-/// no other does. A call that answers a fault leaves what is held as before.
+/// It may tell what it holds, and it may tell the changes that it has made, in order. It has a count of faults that never
+/// falls: a call that answers `Failed` counts one, and no other does. A call that answers a fault leaves what is held as before, and
+/// records no change.
 pub trait Host {
     ghost content: { Self → Option Content };
 
+    ghost changes: { Self → Option (List Change) };
+
     ghost faults: { Self → ℕ };
 
-    /// The objects in a directory, or nothing where the path is no directory.
+    /// The objects in a directory, or nothing if the path is not a directory.
     fn list(&mut self, alloc: Global, path: &[u8]) -> Result<Option<HostList>, HostFault>
         ensures from_content { IfOk result (λ items. IfSome (content self.old) (λ c. items ≡ listing c (spelled path.now))) }
         ensures content { IfSome (content self.old) (λ c. IsContent (held c)) }
         ensures kept { content self.new ≡ content self.old }
+        ensures unasked { changes self.new ≡ changes self.old }
         ensures cause { IsErrOf result Failed → HasRisen (faults self.old) (faults self.new) }
         ensures never_falls { faults self.old ≤ faults self.new }
         ensures count { faults self.new ≡ count_after result (faults self.old) };
 
-    /// The bytes of a file, or nothing where the path is no file.
+    /// The bytes of a file, or nothing if the path is not a file.
     fn read_file(&mut self, alloc: Global, path: &[u8]) -> Result<Option<Vec<u8>>, HostFault>
         ensures from_content { IfOk result (λ bytes. IfSome (content self.old) (λ c.
             option_map (λ b. b.items) bytes ≡ bytes_of (held c (spelled path.now)))) }
         ensures content { IfSome (content self.old) (λ c. IsContent (held c)) }
         ensures kept { content self.new ≡ content self.old }
+        ensures unasked { changes self.new ≡ changes self.old }
         ensures cause { IsErrOf result Failed → HasRisen (faults self.old) (faults self.new) }
         ensures never_falls { faults self.old ≤ faults self.new }
         ensures count { faults self.new ≡ count_after result (faults self.old) };
 
-    /// The bytes of a file, unless they are more than `most`, or nothing where the path is no file. A host that knows the
-    /// length of a file takes no memory for one that is longer.
+    /// The bytes of a file, unless there are more than `most`, or nothing if the path is not a file. A host that knows
+    /// the length of a file takes no memory for one that is longer.
     fn read_within(
         &mut self,
         alloc: Global,
@@ -96,6 +102,7 @@ pub trait Host {
             option_map given found ≡ option_map (within most) (bytes_of (held c (spelled path.now))))) }
         ensures content { IfSome (content self.old) (λ c. IsContent (held c)) }
         ensures kept { content self.new ≡ content self.old }
+        ensures unasked { changes self.new ≡ changes self.old }
         ensures cause { IsErrOf result Failed → HasRisen (faults self.old) (faults self.new) }
         ensures never_falls { faults self.old ≤ faults self.new }
         ensures count { faults self.new ≡ count_after result (faults self.old) }
@@ -112,6 +119,8 @@ pub trait Host {
         requires { MayAsk (content self.old) (WriteFile (spelled path.now) bytes.now) }
         ensures done { OnOk result (IsChanged (WriteFile (spelled path.now) bytes.now) (content self.old) (content self.new)) }
         ensures kept { OnErr result (content self.new ≡ content self.old) }
+        ensures recorded { OnOk result (AreRecorded (WriteFile (spelled path.now) bytes.now ∷ []) (changes self.old) (changes self.new)) }
+        ensures unrecorded { OnErr result (changes self.new ≡ changes self.old) }
         ensures cause { IsErrOf result Failed → HasRisen (faults self.old) (faults self.new) }
         ensures never_falls { faults self.old ≤ faults self.new }
         ensures count { faults self.new ≡ count_after result (faults self.old) };
@@ -121,15 +130,19 @@ pub trait Host {
         requires { MayAsk (content self.old) (MakeDir (spelled path.now)) }
         ensures done { OnOk result (IsChanged (MakeDir (spelled path.now)) (content self.old) (content self.new)) }
         ensures kept { OnErr result (content self.new ≡ content self.old) }
+        ensures recorded { OnOk result (AreRecorded (MakeDir (spelled path.now) ∷ []) (changes self.old) (changes self.new)) }
+        ensures unrecorded { OnErr result (changes self.new ≡ changes self.old) }
         ensures cause { IsErrOf result Failed → HasRisen (faults self.old) (faults self.new) }
         ensures never_falls { faults self.old ≤ faults self.new }
         ensures count { faults self.new ≡ count_after result (faults self.old) };
 
-    /// Moves what stands at and below a path to another, in place of what may be replaced there.
+    /// Renames the object at a path, with all below it, in place of an object that a rename may replace (rename(2)).
     fn rename(&mut self, from: &[u8], to: &[u8]) -> Result<(), HostFault>
         requires { MayAsk (content self.old) (Rename (spelled from.now) (spelled to.now)) }
         ensures done { OnOk result (IsChanged (Rename (spelled from.now) (spelled to.now)) (content self.old) (content self.new)) }
         ensures kept { OnErr result (content self.new ≡ content self.old) }
+        ensures recorded { OnOk result (AreRecorded (Rename (spelled from.now) (spelled to.now) ∷ []) (changes self.old) (changes self.new)) }
+        ensures unrecorded { OnErr result (changes self.new ≡ changes self.old) }
         ensures cause { IsErrOf result Failed → HasRisen (faults self.old) (faults self.new) }
         ensures never_falls { faults self.old ≤ faults self.new }
         ensures count { faults self.new ≡ count_after result (faults self.old) };
@@ -141,6 +154,8 @@ pub trait Host {
         requires { MayAsk (content self.old) (Rename (spelled from.now) (spelled to.now)) }
         ensures done { OnOk result (IsChanged (Rename (spelled from.now) (spelled to.now)) (content self.old) (content self.new)) }
         ensures kept { OnErr result (content self.new ≡ content self.old) }
+        ensures recorded { OnOk result (AreRecorded (Rename (spelled from.now) (spelled to.now) ∷ []) (changes self.old) (changes self.new)) }
+        ensures unrecorded { OnErr result (changes self.new ≡ changes self.old) }
         ensures cause { IsErrOf result Failed → HasRisen (faults self.old) (faults self.new) }
         ensures never_falls { faults self.old ≤ faults self.new }
         ensures count { faults self.new ≡ count_after result (faults self.old) }
@@ -153,6 +168,8 @@ pub trait Host {
         requires { MayAsk (content self.old) (RemoveFile (spelled path.now)) }
         ensures done { OnOk result (IsChanged (RemoveFile (spelled path.now)) (content self.old) (content self.new)) }
         ensures kept { OnErr result (content self.new ≡ content self.old) }
+        ensures recorded { OnOk result (AreRecorded (RemoveFile (spelled path.now) ∷ []) (changes self.old) (changes self.new)) }
+        ensures unrecorded { OnErr result (changes self.new ≡ changes self.old) }
         ensures cause { IsErrOf result Failed → HasRisen (faults self.old) (faults self.new) }
         ensures never_falls { faults self.old ≤ faults self.new }
         ensures count { faults self.new ≡ count_after result (faults self.old) };
@@ -162,6 +179,8 @@ pub trait Host {
         requires { MayAsk (content self.old) (RemoveDir (spelled path.now)) }
         ensures done { OnOk result (IsChanged (RemoveDir (spelled path.now)) (content self.old) (content self.new)) }
         ensures kept { OnErr result (content self.new ≡ content self.old) }
+        ensures recorded { OnOk result (AreRecorded (RemoveDir (spelled path.now) ∷ []) (changes self.old) (changes self.new)) }
+        ensures unrecorded { OnErr result (changes self.new ≡ changes self.old) }
         ensures cause { IsErrOf result Failed → HasRisen (faults self.old) (faults self.new) }
         ensures never_falls { faults self.old ≤ faults self.new }
         ensures count { faults self.new ≡ count_after result (faults self.old) };

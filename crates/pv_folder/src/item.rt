@@ -86,7 +86,7 @@ impl HostList {
         self.items.len()
     }
 
-    /// The object at a place counted from 0, or nothing past the end. It takes no memory.
+    /// The object at an index counted from 0, or nothing past the end. It takes no memory.
     pub fn get(&self, i: usize) -> Option<&HostItem>
         ensures { option_copied result ≡ slice_get self.now i }
     {

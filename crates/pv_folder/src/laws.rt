@@ -1,8 +1,8 @@
 //! What holds of all folders that are opened or closed. Each function does nothing; its contract is the law.
-ghost use Rattle.std.specs.Prelude.{◌≡◌, ◌<◌, ◌^◌, ℕ, List, Some, None, ⊤, take};
+ghost use Rattle.std.specs.Prelude.{◌≡◌, ◌<◌, ◌^◌, ℕ, List, Some, None, take};
 ghost use Rattle.pv_path.specs.Paths.{Path};
 ghost use Rattle.pv_steps.specs.declared.step.Step.{Step};
-ghost use Rattle.pv_steps.specs.Runs.{Along, after_all};
+ghost use Rattle.pv_steps.specs.Runs.{after_all};
 ghost use Rattle.pv_steps.specs.Trees.{Files, IsTree};
 ghost use Rattle.pv_text.specs.Facts.{Values};
 ghost use Rattle.pv_folder.specs.Content.{Content, IsContent, held};
@@ -10,7 +10,8 @@ ghost use Rattle.pv_folder.specs.Folders.{manifest_path};
 ghost use Rattle.pv_folder.specs.Keeping.{IsClosed, Keeps};
 ghost use Rattle.pv_folder.specs.Manifest.{IsManifest};
 ghost use Rattle.pv_folder.specs.Merge.{merged};
-ghost use Rattle.pv_folder.specs.Moments.{IsBetween, all_changed, real_part, run_changes};
+ghost use Rattle.pv_folder.specs.Made.{all_changed};
+ghost use Rattle.pv_folder.specs.Moments.{CanBeDone, IsBetween, real_part, run_changes};
 ghost use Rattle.pv_folder.specs.Opening.{IsOpened, Says, fault_among, objects_below};
 
 /// A folder that is opened keeps the tree that it is opened with: the tree has exactly the directories and files that are real.
@@ -19,25 +20,27 @@ pub fn an_opened_folder_keeps_its_tree()
         IsOpened folder content facts tree → IsContent (held content) → Keeps folder tree content }
 {}
 
-/// A folder that keeps a tree and is closed is opened again with these facts and this tree, where what is real there is not
-/// more than a run takes.
+/// A folder that keeps a tree and is closed is opened again with these facts and this tree. Its real objects have to be
+/// within the limits of a run.
 pub fn a_closed_folder_is_opened_again()
     ensures { (folder : Path) (old new : Content) (facts : Values) (files : Files) → Keeps folder files old
         → IsManifest facts files → IsClosed folder facts files (Some old) (Some new)
         → fault_among 0 0 (objects_below folder new) ≡ None → IsOpened folder new facts files }
 {}
 
-/// Between any two changes that a run on a folder asks of its host, before the first and after the last, `tree` has exactly the
-/// directories and files of an intermediate tree of the run. The manifest is as before until the last change, which puts the new one in its place.
+/// A folder always holds an intermediate tree of the run. Take any moment between two changes that a run asks of its
+/// host, before the first or after the last. Then `tree` has exactly the directories and files of an intermediate tree.
+/// The manifest is as before until the last change, which puts the new one in its place.
 pub fn a_folder_always_holds_an_intermediate_tree()
     ensures { (folder : Path) (old : Content) (t : Files) (steps : List Step) (now n : ℕ) (text : List ℕ) → now < 2 ^ 64 → IsTree t
-        → Keeps folder t old → Along (λ _. ⊤) t steps now
+        → Keeps folder t old → CanBeDone t steps now
         → IsBetween folder t steps now text (held old) (all_changed (take n (run_changes folder t steps now text)) (held old)) }
 {}
 
-/// A folder that is found so with the old manifest is opened with the facts of that manifest, and with what it says merged with the
-/// directories and files of an intermediate tree: a file or directory has its owners, its mode and all else from the old manifest's
-/// object of its kind at its path, if there is one; a link, a FIFO or a device is there where the old manifest has it.
+/// An interrupted folder is opened with the facts of the old manifest. Its tree is that manifest merged with the
+/// directories and files of an intermediate tree. A file or directory has its owners, its mode and all else from the
+/// old manifest's object of its kind at its path, if there is one. A link, a FIFO or a device is there if the old
+/// manifest has it.
 pub fn an_interrupted_folder_is_opened_as_merged()
     ensures { (folder : Path) (old new : Content) (t : Files) (steps : List Step) (now : ℕ) (text : List ℕ) (facts : Values) (tree : Files)
         → IsBetween folder t steps now text (held old) (held new) → held new (manifest_path folder) ≡ held old (manifest_path folder)

@@ -6,6 +6,7 @@
 #![tactic(auto)]
 
 mod asking;
+mod change;
 mod closing;
 mod copied_facts;
 mod folder_tree;

@@ -1,4 +1,4 @@
-//! What a host tells of a folder.
+//! Reads a folder of a host.
 ghost use Rattle.std.specs.Prelude.{◌≡◌, ◌≢◌, ◌≤◌, ◌∷◌, ◌++◌, [], true, false, option_map, IfOk, IfErr, IfSome, IsErrOf};
 ghost use Rattle.pv_io.specs.Faults.{HasRisen};
 ghost use Rattle.pv_path.specs.Names.{is_name};
@@ -17,7 +17,7 @@ use crate::open_fault::OpenFault;
 use pv_path::{Bytes, TreePath};
 use std::alloc::Global;
 
-/// The objects in a directory of a folder's tree, or nothing where it is none.
+/// The objects in a directory of a folder's tree, or nothing if the path is not a directory.
 pub(crate) fn items_at<H: Host>(
     alloc: Global,
     host: &mut H,
@@ -29,6 +29,7 @@ pub(crate) fn items_at<H: Host>(
     ensures content { IfOk result (λ _. IfSome (H.content host.old) (λ c. IsContent (held c))) }
     ensures outer { IfErr result (λ fault. is_outer fault ≡ true) }
     ensures kept { H.content host.new ≡ H.content host.old }
+    ensures unasked { H.changes host.new ≡ H.changes host.old }
     ensures cause { IsErrOf result HostFailed → HasRisen (H.faults host.old) (H.faults host.new) }
     ensures never_falls { H.faults host.old ≤ H.faults host.new }
 {
@@ -36,7 +37,7 @@ pub(crate) fn items_at<H: Host>(
     Ok(host.list(alloc, place.as_slice())?)
 }
 
-/// The bytes of a file at a path of a host, or nothing where it is none.
+/// The bytes of a file at a path of a host, or nothing if it is not a file.
 pub(crate) fn bytes_at<H: Host>(
     alloc: Global,
     host: &mut H,
@@ -45,6 +46,7 @@ pub(crate) fn bytes_at<H: Host>(
     ensures from_content { IfOk result (λ bytes. IfSome (H.content host.old) (λ c. bytes ≡ bytes_of (held c (spelled place.now)))) }
     ensures outer { IfErr result (λ fault. is_outer fault ≡ true) }
     ensures kept { H.content host.new ≡ H.content host.old }
+    ensures unasked { H.changes host.new ≡ H.changes host.old }
     ensures cause { IsErrOf result HostFailed → HasRisen (H.faults host.old) (H.faults host.new) }
     ensures never_falls { H.faults host.old ≤ H.faults host.new }
 {
@@ -63,7 +65,8 @@ fn without_room(bytes: Vec<u8>) -> Bytes
     Bytes::from_vec(bytes)
 }
 
-/// The bytes of a file at a path of a host, or nothing where it is none. It is too large where it has more than there is room for.
+/// The bytes of a file at a path of a host, or nothing if it is not a file. The file is too large if it has more bytes
+/// than there is room for.
 fn file_at<H: Host>(
     alloc: Global,
     host: &mut H,
@@ -74,6 +77,7 @@ fn file_at<H: Host>(
     ensures fault { IfErr result (λ fault. is_outer fault ≡ false → fault ≡ TooLarge) }
     ensures large { IsErrOf result TooLarge → IfSome (H.content host.old) (λ c. IsLonger room (bytes_of (held c (spelled place.now)))) }
     ensures kept { H.content host.new ≡ H.content host.old }
+    ensures unasked { H.changes host.new ≡ H.changes host.old }
     ensures cause { IsErrOf result HostFailed → HasRisen (H.faults host.old) (H.faults host.new) }
     ensures never_falls { H.faults host.old ≤ H.faults host.new }
 {
@@ -84,8 +88,8 @@ fn file_at<H: Host>(
     }
 }
 
-/// What is seen of an object of a folder's tree, whose path is given too. It is odd where it is not what the listing says, and
-/// too large where it is a file with more bytes than there is room for.
+/// What is seen of an object of a folder's tree, whose path is given too. It is odd if it is not what the listing says, and
+/// too large if it is a file with more bytes than there is room for.
 pub(crate) fn look<H: Host>(
     alloc: Global,
     host: &mut H,
@@ -103,6 +107,7 @@ pub(crate) fn look<H: Host>(
     ensures large { IsErrOf result TooLarge → IfSome (H.content host.old) (λ c.
         IsLonger room (bytes_of (held c (tree_path (spelled folder.now) ++ path.now)))) }
     ensures kept { H.content host.new ≡ H.content host.old }
+    ensures unasked { H.changes host.new ≡ H.changes host.old }
     ensures cause { IsErrOf result HostFailed → HasRisen (H.faults host.old) (H.faults host.new) }
     ensures never_falls { H.faults host.old ≤ H.faults host.new }
 {

@@ -1,5 +1,5 @@
 //! A host in memory, which fails at planned calls.
-ghost use Rattle.std.specs.Prelude.{◌≡◌, ◌≤◌, ◌↔◌, true, Contains, Some, is_some, option_map, IfOk, OnOk, OnErr, IsErrOf};
+ghost use Rattle.std.specs.Prelude.{◌≡◌, ◌≤◌, ◌↔◌, ◌∷◌, [], ◌++◌, true, Contains, Some, is_some, map, option_map, IfOk, OnOk, OnErr, IsErrOf};
 ghost use Rattle.pv_io.specs.Calls.{call_after};
 ghost use Rattle.pv_io.specs.Faults.{HasRisen};
 ghost use Rattle.pv_io.specs.Memory.{fresh};
@@ -8,8 +8,9 @@ ghost use Rattle.pv_folder.specs.declared.host.HostFault.TheVariants.{Failed};
 ghost use Rattle.pv_folder.specs.Content.{IsContent, May, bytes_of, given, held, listing, spelled, within};
 ghost use Rattle.pv_folder.specs.Counts.{count_after};
 ghost use Rattle.pv_folder.specs.Content.Change.{MakeDir, RemoveDir, RemoveFile, Rename, WriteFile};
-ghost use Rattle.pv_folder.specs.Memory.{Becomes, content_of};
+ghost use Rattle.pv_folder.specs.Memory.{Becomes, change_of, content_of};
 
+use crate::change::HostChange;
 use crate::host::{FileBytes, Host, HostFault, limited};
 use crate::item::HostList;
 use crate::plan::Plan;
@@ -23,21 +24,27 @@ use std::alloc::{AllocError, Global};
 
 /// A host over a tree in memory, which fails exactly at planned calls.
 ///
-/// It holds the tree's directories, its files with their bytes, and each other object as one that it only names.
+/// It holds the tree's directories, its files with their bytes, and each other object as one that it only names. It tells what it
+/// holds, and records the changes that it has made.
 #[derive(Drop)]
 pub struct MemHost {
     tree: MemTree,
     plan: Plan,
+    changes: Vec<HostChange>,
 }
 
 impl MemHost {
     /// A host of this tree whose calls with the listed numbers fail, counted from 0.
     pub fn new(content: MemTree, fails: Vec<u64>) -> MemHost
-        ensures { result ≡ record { tree = content; plan = fresh fails.items } }
+        ensures tree { result.tree ≡ content }
+        ensures plan { result.plan ≡ fresh fails.items }
+        ensures changes { result.changes.items ≡ [] }
     {
+        let alloc = *fails.allocator();
         MemHost {
             tree: content,
             plan: Plan::new(fails),
+            changes: Vec::new(alloc),
         }
     }
 
@@ -60,8 +67,51 @@ fn named_path(alloc: Global, bytes: &[u8]) -> Result<TreePath, AllocError>
     }
 }
 
+/// Does a change of a tree, and records it at the end of the list of changes. The change is copied first. After running out of
+/// memory, which is the only fault, both are as before.
+fn do_recorded(
+    alloc: Global,
+    tree: &mut MemTree,
+    changes: &mut Vec<HostChange>,
+    change: HostChange,
+) -> Result<(), HostFault>
+    requires { May (held (content_of tree.old.files)) (change_of change) }
+    ensures done { OnOk result (Becomes (change_of change) tree.old.files tree.new.files) }
+    ensures recorded { OnOk result (changes.new.items ≡ changes.old.items ++ change ∷ []) }
+    ensures kept { OnErr result (tree.new.files ≡ tree.old.files) }
+    ensures unrecorded { OnErr result (changes.new.items ≡ changes.old.items) }
+    ensures fault { IsErrOf result Failed → ⊥ }
+{
+    changes.push(change.copy()?)?;
+    match do_change(alloc, tree, change) {
+        Ok(()) => Ok(()),
+        Err(fault) => {
+            let _undone = changes.pop();
+            Err(fault)
+        }
+    }
+}
+
+/// Does a change of a tree. After running out of memory, which is the only fault, it is as before.
+fn do_change(alloc: Global, tree: &mut MemTree, change: HostChange) -> Result<(), HostFault>
+    requires { May (held (content_of tree.old.files)) (change_of change) }
+    ensures done { OnOk result (Becomes (change_of change) tree.old.files tree.new.files) }
+    ensures kept { OnErr result (tree.new.files ≡ tree.old.files) }
+    ensures fault { IsErrOf result Failed → ⊥ }
+{
+    match change {
+        HostChange::MakeDir { path } => make_dir(tree, path),
+        HostChange::WriteFile { path, bytes } => write_file(alloc, tree, path, bytes),
+        HostChange::Rename { from, to } => rename(tree, from, to),
+        HostChange::RemoveFile { path } => remove_file(tree, path),
+        HostChange::RemoveDir { path } => remove_dir(tree, path),
+    }
+}
+
 impl Host for MemHost {
     ghost content = { λ h. Some (content_of h.tree.files) };
+
+    ghost changes = { λ h. Some (map change_of h.changes.items) };
 
     ghost faults = { λ h. h.plan.faults };
 
@@ -69,6 +119,7 @@ impl Host for MemHost {
         ensures from_content { IfOk result (λ items. items ≡ listing (content_of self.old.tree.files) (spelled path.now)) }
         ensures content { IsContent (held (content_of self.old.tree.files)) }
         ensures kept { self.new.tree.files ≡ self.old.tree.files }
+        ensures unasked { self.new.changes.items ≡ self.old.changes.items }
         ensures cause { IsErrOf result Failed → HasRisen self.old.plan.faults self.new.plan.faults }
         ensures never_falls { self.old.plan.faults ≤ self.new.plan.faults }
         ensures count { self.new.plan.faults ≡ count_after result self.old.plan.faults }
@@ -87,6 +138,7 @@ impl Host for MemHost {
             option_map (λ b. b.items) bytes ≡ bytes_of (held (content_of self.old.tree.files) (spelled path.now))) }
         ensures content { IsContent (held (content_of self.old.tree.files)) }
         ensures kept { self.new.tree.files ≡ self.old.tree.files }
+        ensures unasked { self.new.changes.items ≡ self.old.changes.items }
         ensures cause { IsErrOf result Failed → HasRisen self.old.plan.faults self.new.plan.faults }
         ensures never_falls { self.old.plan.faults ≤ self.new.plan.faults }
         ensures count { self.new.plan.faults ≡ count_after result self.old.plan.faults }
@@ -110,6 +162,7 @@ impl Host for MemHost {
             option_map given found ≡ option_map (within most) (bytes_of (held (content_of self.old.tree.files) (spelled path.now)))) }
         ensures content { IsContent (held (content_of self.old.tree.files)) }
         ensures kept { self.new.tree.files ≡ self.old.tree.files }
+        ensures unasked { self.new.changes.items ≡ self.old.changes.items }
         ensures cause { IsErrOf result Failed → HasRisen self.old.plan.faults self.new.plan.faults }
         ensures never_falls { self.old.plan.faults ≤ self.new.plan.faults }
         ensures count { self.new.plan.faults ≡ count_after result self.old.plan.faults }
@@ -127,6 +180,8 @@ impl Host for MemHost {
         requires { May (held (content_of self.old.tree.files)) (WriteFile (spelled path.now) bytes.now) }
         ensures done { OnOk result (Becomes (WriteFile (spelled path.now) bytes.now) self.old.tree.files self.new.tree.files) }
         ensures kept { OnErr result (self.new.tree.files ≡ self.old.tree.files) }
+        ensures recorded { OnOk result (map change_of self.new.changes.items ≡ map change_of self.old.changes.items ++ WriteFile (spelled path.now) bytes.now ∷ []) }
+        ensures unrecorded { OnErr result (self.new.changes.items ≡ self.old.changes.items) }
         ensures cause { IsErrOf result Failed → HasRisen self.old.plan.faults self.new.plan.faults }
         ensures never_falls { self.old.plan.faults ≤ self.new.plan.faults }
         ensures count { self.new.plan.faults ≡ count_after result self.old.plan.faults }
@@ -136,14 +191,17 @@ impl Host for MemHost {
         self.plan.begin_call()?;
         let alloc = self.plan.alloc();
         let path = named_path(alloc, path)?;
-        let content = Bytes::copy_of(alloc, bytes)?;
-        write_file(alloc, &mut self.tree, path, content)
+        let bytes = Bytes::copy_of(alloc, bytes)?;
+        let change = HostChange::WriteFile { path, bytes };
+        do_recorded(alloc, &mut self.tree, &mut self.changes, change)
     }
 
     fn make_dir(&mut self, path: &[u8]) -> Result<(), HostFault>
         requires { May (held (content_of self.old.tree.files)) (MakeDir (spelled path.now)) }
         ensures done { OnOk result (Becomes (MakeDir (spelled path.now)) self.old.tree.files self.new.tree.files) }
         ensures kept { OnErr result (self.new.tree.files ≡ self.old.tree.files) }
+        ensures recorded { OnOk result (map change_of self.new.changes.items ≡ map change_of self.old.changes.items ++ MakeDir (spelled path.now) ∷ []) }
+        ensures unrecorded { OnErr result (self.new.changes.items ≡ self.old.changes.items) }
         ensures cause { IsErrOf result Failed → HasRisen self.old.plan.faults self.new.plan.faults }
         ensures never_falls { self.old.plan.faults ≤ self.new.plan.faults }
         ensures count { self.new.plan.faults ≡ count_after result self.old.plan.faults }
@@ -151,14 +209,18 @@ impl Host for MemHost {
         ensures counted { self.new.plan.calls ≡ call_after self.old.plan.calls }
     {
         self.plan.begin_call()?;
-        let path = named_path(self.plan.alloc(), path)?;
-        make_dir(&mut self.tree, path)
+        let alloc = self.plan.alloc();
+        let path = named_path(alloc, path)?;
+        let change = HostChange::MakeDir { path };
+        do_recorded(alloc, &mut self.tree, &mut self.changes, change)
     }
 
     fn rename(&mut self, from: &[u8], to: &[u8]) -> Result<(), HostFault>
         requires { May (held (content_of self.old.tree.files)) (Rename (spelled from.now) (spelled to.now)) }
         ensures done { OnOk result (Becomes (Rename (spelled from.now) (spelled to.now)) self.old.tree.files self.new.tree.files) }
         ensures kept { OnErr result (self.new.tree.files ≡ self.old.tree.files) }
+        ensures recorded { OnOk result (map change_of self.new.changes.items ≡ map change_of self.old.changes.items ++ Rename (spelled from.now) (spelled to.now) ∷ []) }
+        ensures unrecorded { OnErr result (self.new.changes.items ≡ self.old.changes.items) }
         ensures cause { IsErrOf result Failed → HasRisen self.old.plan.faults self.new.plan.faults }
         ensures never_falls { self.old.plan.faults ≤ self.new.plan.faults }
         ensures count { self.new.plan.faults ≡ count_after result self.old.plan.faults }
@@ -166,15 +228,19 @@ impl Host for MemHost {
         ensures counted { self.new.plan.calls ≡ call_after self.old.plan.calls }
     {
         self.plan.begin_call()?;
-        let from = named_path(self.plan.alloc(), from)?;
-        let to = named_path(self.plan.alloc(), to)?;
-        rename(&mut self.tree, from, to)
+        let alloc = self.plan.alloc();
+        let from = named_path(alloc, from)?;
+        let to = named_path(alloc, to)?;
+        let change = HostChange::Rename { from, to };
+        do_recorded(alloc, &mut self.tree, &mut self.changes, change)
     }
 
     fn replace_file(&mut self, from: &[u8], to: &[u8]) -> Result<(), HostFault>
         requires { May (held (content_of self.old.tree.files)) (Rename (spelled from.now) (spelled to.now)) }
         ensures done { OnOk result (Becomes (Rename (spelled from.now) (spelled to.now)) self.old.tree.files self.new.tree.files) }
         ensures kept { OnErr result (self.new.tree.files ≡ self.old.tree.files) }
+        ensures recorded { OnOk result (map change_of self.new.changes.items ≡ map change_of self.old.changes.items ++ Rename (spelled from.now) (spelled to.now) ∷ []) }
+        ensures unrecorded { OnErr result (self.new.changes.items ≡ self.old.changes.items) }
         ensures cause { IsErrOf result Failed → HasRisen self.old.plan.faults self.new.plan.faults }
         ensures never_falls { self.old.plan.faults ≤ self.new.plan.faults }
         ensures count { self.new.plan.faults ≡ count_after result self.old.plan.faults }
@@ -188,6 +254,8 @@ impl Host for MemHost {
         requires { May (held (content_of self.old.tree.files)) (RemoveFile (spelled path.now)) }
         ensures done { OnOk result (Becomes (RemoveFile (spelled path.now)) self.old.tree.files self.new.tree.files) }
         ensures kept { OnErr result (self.new.tree.files ≡ self.old.tree.files) }
+        ensures recorded { OnOk result (map change_of self.new.changes.items ≡ map change_of self.old.changes.items ++ RemoveFile (spelled path.now) ∷ []) }
+        ensures unrecorded { OnErr result (self.new.changes.items ≡ self.old.changes.items) }
         ensures cause { IsErrOf result Failed → HasRisen self.old.plan.faults self.new.plan.faults }
         ensures never_falls { self.old.plan.faults ≤ self.new.plan.faults }
         ensures count { self.new.plan.faults ≡ count_after result self.old.plan.faults }
@@ -195,14 +263,18 @@ impl Host for MemHost {
         ensures counted { self.new.plan.calls ≡ call_after self.old.plan.calls }
     {
         self.plan.begin_call()?;
-        let path = named_path(self.plan.alloc(), path)?;
-        remove_file(&mut self.tree, path)
+        let alloc = self.plan.alloc();
+        let path = named_path(alloc, path)?;
+        let change = HostChange::RemoveFile { path };
+        do_recorded(alloc, &mut self.tree, &mut self.changes, change)
     }
 
     fn remove_dir(&mut self, path: &[u8]) -> Result<(), HostFault>
         requires { May (held (content_of self.old.tree.files)) (RemoveDir (spelled path.now)) }
         ensures done { OnOk result (Becomes (RemoveDir (spelled path.now)) self.old.tree.files self.new.tree.files) }
         ensures kept { OnErr result (self.new.tree.files ≡ self.old.tree.files) }
+        ensures recorded { OnOk result (map change_of self.new.changes.items ≡ map change_of self.old.changes.items ++ RemoveDir (spelled path.now) ∷ []) }
+        ensures unrecorded { OnErr result (self.new.changes.items ≡ self.old.changes.items) }
         ensures cause { IsErrOf result Failed → HasRisen self.old.plan.faults self.new.plan.faults }
         ensures never_falls { self.old.plan.faults ≤ self.new.plan.faults }
         ensures count { self.new.plan.faults ≡ count_after result self.old.plan.faults }
@@ -210,7 +282,9 @@ impl Host for MemHost {
         ensures counted { self.new.plan.calls ≡ call_after self.old.plan.calls }
     {
         self.plan.begin_call()?;
-        let path = named_path(self.plan.alloc(), path)?;
-        remove_dir(&mut self.tree, path)
+        let alloc = self.plan.alloc();
+        let path = named_path(alloc, path)?;
+        let change = HostChange::RemoveDir { path };
+        do_recorded(alloc, &mut self.tree, &mut self.changes, change)
     }
 }

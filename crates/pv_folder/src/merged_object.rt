@@ -67,7 +67,7 @@ fn lies_in_directory(tree: &MemTree, names: &[Name]) -> bool
     }
 }
 
-/// Puts the manifest's object at a path where nothing is real, where it is not dropped.
+/// Puts the manifest's object at a path where nothing is real, if it is not dropped.
 fn add_unreal(
     alloc: Global,
     tree: &mut MemTree,
@@ -79,8 +79,8 @@ fn add_unreal(
     requires names { has_names names.now ≡ true }
     requires object { IsObject (record { node = node.now; payload = payload.now }) }
     ensures places { let path = names.now in let t = places tree.old.files in
-        let new_messages = Some (record { node = node.now; payload = payload.now }) in
-        OnOk result (places tree.new.files ≡ put_at path (merged_of new_messages None (kind_of (t (parent_of path)))) t) }
+        let described = Some (record { node = node.now; payload = payload.now }) in
+        OnOk result (places tree.new.files ≡ put_at path (merged_of described None (kind_of (t (parent_of path)))) t) }
     ensures steps { tree.new.steps ≡ tree.old.steps }
 {
     if is_real_kind(node.kind) || !lies_in_directory(tree, names) {
@@ -102,8 +102,8 @@ pub(crate) fn merge_at(
     requires object { IsObject (record { node = node.now; payload = payload.now }) }
     requires plain { IsPlainAt tree.old.files names.now }
     ensures places { let path = names.now in let t = places tree.old.files in
-        let new_messages = Some (record { node = node.now; payload = payload.now }) in
-        OnOk result (places tree.new.files ≡ put_at path (merged_of new_messages (t path) (kind_of (t (parent_of path)))) t) }
+        let described = Some (record { node = node.now; payload = payload.now }) in
+        OnOk result (places tree.new.files ≡ put_at path (merged_of described (t path) (kind_of (t (parent_of path)))) t) }
     ensures steps { tree.new.steps ≡ tree.old.steps }
 {
     match tree.kind_at(names) {

@@ -41,10 +41,10 @@ fn merge_into(alloc: Global, tree: &mut MemTree, manifest: &MemTree) -> Result<(
     ensures files { OnOk result (tree.new.files ≡ merged manifest.now.files tree.old.files) }
     ensures steps { tree.new.steps ≡ tree.old.steps }
 {
-    let mut new_messages = manifest.walk(alloc)?;
-    while let Some(place) = new_messages.place() {
+    let mut entries = manifest.walk(alloc)?;
+    while let Some(place) = entries.place() {
         merge_at(alloc, tree, place.names, place.node, place.payload)?;
-        new_messages.advance()?;
+        entries.advance()?;
     }
     Ok(())
 }
@@ -57,18 +57,17 @@ pub(crate) fn merge_with(alloc: Global, manifest: Image, real: MemTree) -> Resul
     ensures facts { IfOk result (λ image. image.facts ≡ manifest.facts) }
 {
     let Image {
-        tree: new_messages,
+        tree: entries,
         facts,
     } = manifest;
     let mut tree = real;
-    merge_into(alloc, &mut tree, &new_messages)?;
+    merge_into(alloc, &mut tree, &entries)?;
     Ok(Image { tree, facts })
 }
 
-/// The tree of a manifest and of what is real, with the manifest's facts. No step is recorded in it.
-///
-/// Each real object keeps its bytes, and has all else from the manifest's node at its path, where that is of its kind; links,
-/// FIFOs and devices of the manifest stand where their path is not real and lies in a real directory.
+/// Merges a manifest with the real objects of a folder, and keeps the manifest's facts. No step is recorded in the
+/// tree. Each real object keeps its bytes. It has all else from the manifest's node at its path, if that is of its
+/// kind. A link, FIFO or device of the manifest is added if its path is not real and its parent is a real directory.
 pub fn merge(alloc: Global, manifest: &Image, real: &MemTree) -> Result<Image, AllocError>
     ensures tree { IfOk result (λ image. image.tree.files ≡ merged manifest.now.tree.files real.now.files) }
     ensures steps { IfOk result (λ image. image.tree.steps ≡ []) }

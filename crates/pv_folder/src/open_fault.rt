@@ -19,11 +19,11 @@ pub enum OpenFault {
     /// The folder has no directory `tree`, or has `manifest` or `manifest.new` as anything but a file.
     #[error("NotPrepared")]
     NotPrepared,
-    /// The manifest is no image.
+    /// The manifest is not an image.
     #[error("BadManifest")]
     BadManifest(ImageFault),
-    /// What stands at this path of the folder, which is printed, is neither a directory nor a file, or its name is none of a
-    /// tree's, or it was gone when it was listed or read.
+    /// The object at this path of the folder, which is printed, is neither a directory nor a file, or its name is not
+    /// allowed in a tree. Or it was gone when it was listed or read.
     #[error("OddObject")]
     OddObject(Bytes),
     /// There are more objects or more bytes of files than a run takes.

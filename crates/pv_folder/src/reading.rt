@@ -63,6 +63,7 @@ fn has_manifest<H: Host>(alloc: Global, host: &mut H, folder: &[u8]) -> Result<b
     ensures refused { IfErr result (λ fault. is_outer fault ≡ false → IfSome (H.content host.old) (λ c.
         IsRefused (spelled folder.now) c fault)) }
     ensures kept { H.content host.new ≡ H.content host.old }
+    ensures unasked { H.changes host.new ≡ H.changes host.old }
     ensures cause { IsErrOf result HostFailed → HasRisen (H.faults host.old) (H.faults host.new) }
     ensures never_falls { H.faults host.old ≤ H.faults host.new }
 {
@@ -97,6 +98,7 @@ fn read_manifest<H: Host>(alloc: Global, host: &mut H, folder: &[u8]) -> Result<
     ensures refused { IfErr result (λ fault. is_outer fault ≡ false → IfSome (H.content host.old) (λ c.
         IsRefused (spelled folder.now) c fault)) }
     ensures kept { H.content host.new ≡ H.content host.old }
+    ensures unasked { H.changes host.new ≡ H.changes host.old }
     ensures cause { IsErrOf result HostFailed → HasRisen (H.faults host.old) (H.faults host.new) }
     ensures never_falls { H.faults host.old ≤ H.faults host.new }
 {
@@ -126,6 +128,7 @@ fn manifest_in<H: Host>(alloc: Global, host: &mut H, folder: &[u8]) -> Result<Im
     ensures refused { IfErr result (λ fault. is_outer fault ≡ false → IfSome (H.content host.old) (λ c.
         IsRefused (spelled folder.now) c fault)) }
     ensures kept { H.content host.new ≡ H.content host.old }
+    ensures unasked { H.changes host.new ≡ H.changes host.old }
     ensures cause { IsErrOf result HostFailed → HasRisen (H.faults host.old) (H.faults host.new) }
     ensures never_falls { H.faults host.old ≤ H.faults host.new }
 {
@@ -136,9 +139,9 @@ fn manifest_in<H: Host>(alloc: Global, host: &mut H, folder: &[u8]) -> Result<Im
     }
 }
 
-/// Opens a folder of a host: the facts of its manifest, and the manifest's tree merged with what is real in `tree`. No step
-/// is recorded in the tree. The folder is listed first, then its manifest is read, then `tree` is gone through in the order of
-/// the paths; the first fault that is met is answered.
+/// Opens a folder of a host: the facts of its manifest, and the manifest's tree merged with the real objects in `tree`.
+/// No step is recorded in the tree. The folder is listed first, then its manifest is read, then `tree` is read in the
+/// order of the paths. The first fault that is met is answered.
 pub fn read_folder<H: Host>(alloc: Global, host: &mut H, folder: &[u8]) -> Result<Image, OpenFault>
     ensures opened { IfOk result (λ image. IfSome (H.content host.old) (λ c.
         IsOpened (spelled folder.now) c image.facts image.tree.files)) }
@@ -151,6 +154,7 @@ pub fn read_folder<H: Host>(alloc: Global, host: &mut H, folder: &[u8]) -> Resul
         (result ≡ Err fault) ⊎ IsErrOf result HostFailed ⊎ IsErrOf result Memory) }
     ensures content { IfSome (H.content host.old) (λ c. IsContent (held c)) }
     ensures kept { H.content host.new ≡ H.content host.old }
+    ensures unasked { H.changes host.new ≡ H.changes host.old }
     ensures cause { IsErrOf result HostFailed → HasRisen (H.faults host.old) (H.faults host.new) }
     ensures never_falls { H.faults host.old ≤ H.faults host.new }
 {

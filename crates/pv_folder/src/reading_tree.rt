@@ -86,13 +86,14 @@ fn size_of(seen: &Seen) -> usize
     }
 }
 
-/// The objects in `tree`, where it is a directory.
+/// The objects in `tree`, if it is a directory.
 fn items_in_tree<H: Host>(alloc: Global, host: &mut H, folder: &[u8]) -> Result<HostList, OpenFault>
     requires { IfSome (H.content host.old) (λ c. IsDirectory (held c) (tree_path (spelled folder.now))) }
     ensures from_content { IfOk result (λ items. IfSome (H.content host.old) (λ c. listing c (tree_path (spelled folder.now)) ≡ Some items)) }
     ensures content { IfOk result (λ _. IfSome (H.content host.old) (λ c. IsContent (held c))) }
     ensures fault { IfErr result (λ fault. is_outer fault ≡ false → IfSome (H.content host.old) (λ _. ⊥)) }
     ensures kept { H.content host.new ≡ H.content host.old }
+    ensures unasked { H.changes host.new ≡ H.changes host.old }
     ensures cause { IsErrOf result HostFailed → HasRisen (H.faults host.old) (H.faults host.new) }
     ensures never_falls { H.faults host.old ≤ H.faults host.new }
 {
@@ -193,6 +194,7 @@ pub(crate) fn read_tree<H: Host>(
     ensures fault { IfErr result (λ fault. is_outer fault ≡ false → IfSome (H.content host.old) (λ c.
         fault_among 0 0 (objects_below (spelled folder.now) c) ≡ Some fault)) }
     ensures kept { H.content host.new ≡ H.content host.old }
+    ensures unasked { H.changes host.new ≡ H.changes host.old }
     ensures cause { IsErrOf result HostFailed → HasRisen (H.faults host.old) (H.faults host.new) }
     ensures never_falls { H.faults host.old ≤ H.faults host.new }
 {

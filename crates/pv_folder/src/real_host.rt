@@ -89,7 +89,8 @@ fn text_of(path: &[u8]) -> io::Result<&str> {
     }
 }
 
-/// What the machine says of what stands at a path, or nothing where it is absent. A link at its last place is not followed.
+/// The metadata of the object at a path of the machine, or nothing if it is absent. A symbolic link at the last
+/// component is not followed.
 fn metadata_at<R: Files>(rt: &R, path: &str) -> io::Result<Option<Metadata>> {
     match fs::symlink_metadata(rt, path) {
         Ok(metadata) => Ok(Some(metadata)),
@@ -100,7 +101,7 @@ fn metadata_at<R: Files>(rt: &R, path: &str) -> io::Result<Option<Metadata>> {
     }
 }
 
-/// What stands at a path, or nothing where it is absent.
+/// The kind of the object at a path, or nothing if it is absent.
 fn kind_at<R: Files>(rt: &R, path: &str) -> io::Result<Option<HostKind>> {
     match metadata_at(rt, path)? {
         Some(metadata) => Ok(Some(kind_of(metadata.file_type()))),
@@ -196,7 +197,7 @@ fn make_at<R: Files>(rt: &R, path: &[u8]) -> io::Result<()> {
     make_directory(rt, text_of(path)?)
 }
 
-/// Moves what stands at a path.
+/// Renames the object at a path.
 fn rename_at<R: Files>(rt: &R, from: &[u8], to: &[u8]) -> io::Result<()> {
     fs::rename(rt, text_of(from)?, text_of(to)?)
 }
@@ -218,6 +219,8 @@ fn remove_dir_at<R: Files>(rt: &R, path: &[u8]) -> io::Result<()> {
 
 impl<R: Files + Alloc<A = Global> + Clone + Drop> Host for RealHost<R> {
     ghost content = { λ _. None };
+
+    ghost changes = { λ _. None };
 
     ghost faults = { λ s. s.faults };
 

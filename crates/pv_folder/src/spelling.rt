@@ -6,7 +6,7 @@ ghost use Rattle.pv_folder.specs.Content.{names_among, spelled};
 use pv_path::{Name, TreePath, is_name, pieces_of};
 use std::alloc::{AllocError, Global};
 
-/// The path that bytes spell, or nothing where a name of it is none that a tree can have.
+/// The path that bytes spell, or nothing if a name of it is none that a tree can have.
 pub(crate) fn path_of(alloc: Global, bytes: &[u8]) -> Result<Option<TreePath>, AllocError>
     ensures path { IfOk result (λ path. IfSome path (λ p. p ≡ spelled bytes.now)) }
     ensures none { result ≡ Ok None → has_names (spelled bytes.now) ≡ false }

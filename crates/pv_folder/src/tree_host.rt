@@ -1,4 +1,4 @@
-//! What a host tells of a tree in memory, and what it changes of one.
+//! The calls of a host, over a tree in memory.
 ghost use Rattle.std.specs.Prelude.{◌≡◌, ◌↔◌, [], true, None, Some, option_map, IsTrue, IfOk, OnOk, OnErr, IsErrOf};
 ghost use Rattle.std.specs.FinMap as fin;
 ghost use Rattle.std.specs.Ordering.{is_lt};
@@ -30,7 +30,7 @@ fn host_kind(kind: Kind) -> HostKind
     }
 }
 
-/// The kind of what stands at a path of a tree, or nothing where nothing does.
+/// The kind of the object at a path of a tree, or nothing if it is absent.
 pub(crate) fn kind_at(tree: &MemTree, path: &TreePath) -> Option<Kind>
     ensures kind { result ≡ kind_of (places tree.now.files path.now) }
     ensures tree { IsTree tree.now.files }
@@ -74,7 +74,7 @@ fn items_of(alloc: Global, tree: &MemTree, path: &TreePath) -> Result<HostList, 
     Ok(items)
 }
 
-/// The listing of a directory of a tree, or nothing where the path is none.
+/// The listing of a directory of a tree, or nothing if the path is none.
 pub(crate) fn listing_of(
     alloc: Global,
     tree: &MemTree,
@@ -95,7 +95,7 @@ fn is_file(tree: &MemTree, path: &TreePath) -> bool
     matches!(kind_at(tree, path), Some(Kind::File))
 }
 
-/// The bytes of a file of a tree, or nothing where the path is none.
+/// The bytes of a file of a tree, or nothing if the path is none.
 pub(crate) fn file_bytes(
     alloc: Global,
     tree: &MemTree,
@@ -133,7 +133,7 @@ pub(crate) fn make_dir(tree: &mut MemTree, path: TreePath) -> Result<(), HostFau
     do_step(tree, Step::MakeDir { path })
 }
 
-/// Moves what stands at and below a path of a tree. After running out of memory the tree is as before.
+/// Renames the object at a path of a tree, with all below it. After running out of memory the tree is as before.
 pub(crate) fn rename(tree: &mut MemTree, from: TreePath, to: TreePath) -> Result<(), HostFault>
     requires { May (held (content_of tree.old.files)) (Rename from to) }
     ensures ok { OnOk result (Becomes (Rename from to) tree.old.files tree.new.files) }

@@ -1,6 +1,6 @@
 //! What a row gives.
 use crate::hosts::{folder_text, host_image};
-use crate::runs::{failures, run, stops};
+use crate::runs::{failures, left, run, stops};
 use std::alloc::{AllocError, Global};
 use test_sheet::{Calls, Row, Sheet, ended};
 
@@ -43,6 +43,7 @@ impl Calls for Runs {
             "failures" => failures(alloc, row.words, image, false)?,
             "cuts" => failures(alloc, row.words, image, true)?,
             "stops" => stops(alloc, row.words, image)?,
+            "left" => left(alloc, row.words, image)?,
             _ => "no such call".to_string(alloc)?,
         };
         ended(Vec::new(alloc), answer.as_bytes())

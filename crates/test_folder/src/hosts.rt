@@ -70,7 +70,7 @@ pub(crate) fn host_image(
     Ok(text)
 }
 
-/// A host of this image that fails at these calls; none where the text is no image.
+/// A host of this image that fails at these calls, or nothing if the text is not an image.
 pub(crate) fn host_of(
     alloc: Global,
     image: &[u8],
@@ -126,4 +126,31 @@ pub(crate) fn folder_text(alloc: Global, image: &str) -> Result<String, AllocErr
         }
     }
     Ok(text)
+}
+
+/// The manifest of a folder as the payload that the image of its host has, and its tree as the lines there.
+#[derive(Drop)]
+pub(crate) struct Parts {
+    pub(crate) manifest: String,
+    pub(crate) tree: String,
+}
+
+/// The parts of `/r`, by the image of what its host holds.
+pub(crate) fn parts_of(alloc: Global, image: &[u8]) -> Result<Parts, AllocError> {
+    let mut parts = Parts {
+        manifest: String::new(alloc),
+        tree: String::new(alloc),
+    };
+    for line in str::from_utf8(image).unwrap_or("").lines() {
+        let fields: Vec<&str> = line.split(' ').collect(alloc)?;
+        match fields.as_slice() {
+            [_, "/r/manifest", .., payload] => parts.manifest.push_str(payload)?,
+            [_, path, ..] if path.starts_with("/r/tree") => {
+                parts.tree.push_str(line)?;
+                parts.tree.push('\n')?;
+            }
+            _ => {}
+        }
+    }
+    Ok(parts)
 }

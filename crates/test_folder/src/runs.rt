@@ -1,5 +1,5 @@
 //! Runs on the folder of a host, whole, stopped and broken.
-use crate::hosts::{folder_text, host_of, image_of};
+use crate::hosts::{Parts, folder_text, host_of, image_of, parts_of};
 use provision_run::{provision_all, status};
 use pv_io::{MemSink, MemSource};
 use std::alloc::{AllocError, Global};
@@ -62,15 +62,15 @@ fn objects(alloc: Global, image: &[u8]) -> Result<String, AllocError> {
     Ok(text)
 }
 
-/// Whether a whole run over this host leaves these objects.
-fn is_mended(alloc: Global, words: &str, half: &[u8], wanted: &str) -> Result<bool, AllocError> {
+/// Whether a complete run over this host leaves these objects.
+fn is_recovered(alloc: Global, words: &str, half: &[u8], wanted: &str) -> Result<bool, AllocError> {
     match run(alloc, words, half, Vec::new(alloc))? {
         Some(whole) => Ok(objects(alloc, &whole.image)?.as_str() == wanted),
         None => Ok(false),
     }
 }
 
-/// What one whole run leaves in the folder.
+/// What one complete run leaves in the folder.
 fn wanted_of(alloc: Global, words: &str, image: &[u8]) -> Result<String, AllocError> {
     match run(alloc, words, image, Vec::new(alloc))? {
         Some(whole) => objects(alloc, &whole.image),
@@ -88,8 +88,8 @@ fn failing(alloc: Global, call: u32, stops: bool) -> Result<Vec<u64>, AllocError
     Ok(fails)
 }
 
-/// How many calls a run asks the host for, each of which ends it with status 77 where it fails, or the machine stops there, and
-/// after which of them a whole run leaves other objects than one whole run.
+/// How many calls a run makes to the host. Each of them ends the run with status 77 if it fails, or the machine stops
+/// there. It also tells after which of them a complete run leaves other objects than one complete run.
 pub(crate) fn failures(
     alloc: Global,
     words: &str,
@@ -101,7 +101,7 @@ pub(crate) fn failures(
     for call in 0..MOST {
         match run(alloc, words, image, failing(alloc, call, stops)?)? {
             Some(half) if half.status == 77 => {
-                if !is_mended(alloc, words, &half.image, &wanted)? {
+                if !is_recovered(alloc, words, &half.image, &wanted)? {
                     others.push_str(&format!(in alloc; ", other objects after {call}")?)?;
                 }
             }
@@ -111,7 +111,7 @@ pub(crate) fn failures(
     format!(in alloc; "too many calls")
 }
 
-/// After how many numbers of steps a run is stopped, and after which of them a whole run leaves other objects than one whole
+/// After how many numbers of steps a run is stopped, and after which of them a complete run leaves other objects than one whole
 /// run.
 pub(crate) fn stops(alloc: Global, words: &str, image: &[u8]) -> Result<String, AllocError> {
     let wanted = wanted_of(alloc, words, image)?;
@@ -120,7 +120,7 @@ pub(crate) fn stops(alloc: Global, words: &str, image: &[u8]) -> Result<String, 
         let limited = format!(in alloc; "{words} --stop-after={steps}")?;
         match run(alloc, &limited, image, Vec::new(alloc))? {
             Some(half) if half.status == 75 => {
-                if !is_mended(alloc, words, &half.image, &wanted)? {
+                if !is_recovered(alloc, words, &half.image, &wanted)? {
                     others.push_str(&format!(in alloc; ", other objects after {steps}")?)?;
                 }
             }
@@ -128,4 +128,71 @@ pub(crate) fn stops(alloc: Global, words: &str, image: &[u8]) -> Result<String, 
         }
     }
     format!(in alloc; "too many steps")
+}
+
+/// What a run leaves in the folder that is stopped after each number of steps at which it can be.
+fn stopped_parts(alloc: Global, words: &str, image: &[u8]) -> Result<Vec<Parts>, AllocError> {
+    let mut stopped = Vec::new(alloc);
+    for steps in 0..MOST {
+        let limited = format!(in alloc; "{words} --stop-after={steps}")?;
+        match run(alloc, &limited, image, Vec::new(alloc))? {
+            Some(half) if half.status == 75 => stopped.push(parts_of(alloc, &half.image)?)?,
+            _ => return Ok(stopped),
+        }
+    }
+    Ok(stopped)
+}
+
+/// Whether two folders have the same manifest and the same tree.
+fn same_parts(one: &Parts, other: &Parts) -> bool {
+    one.manifest.as_str() == other.manifest.as_str() && one.tree.as_str() == other.tree.as_str()
+}
+
+/// What a folder is as: before the run, after a stop, or after the complete run except for the manifest, which is the old one.
+fn likeness(
+    alloc: Global,
+    half: &Parts,
+    before: &Parts,
+    stopped: &[Parts],
+    whole: &Parts,
+) -> Result<String, AllocError> {
+    if same_parts(half, before) {
+        return "as before".to_string(alloc);
+    }
+    for (steps, stop) in stopped.iter().enumerate() {
+        if same_parts(half, stop) {
+            return format!(in alloc; "as after {steps} steps");
+        }
+    }
+    let unclosed = half.manifest.as_str() == before.manifest.as_str();
+    if unclosed && half.tree.as_str() == whole.tree.as_str() {
+        return "all but the manifest".to_string(alloc);
+    }
+    "other".to_string(alloc)
+}
+
+/// What the folder is as after each call of the host that fails: from which call on it is so, and how many calls there are.
+pub(crate) fn left(alloc: Global, words: &str, image: &[u8]) -> Result<String, AllocError> {
+    let before = parts_of(alloc, image)?;
+    let stopped = stopped_parts(alloc, words, image)?;
+    let Some(whole) = run(alloc, words, image, Vec::new(alloc))? else {
+        return "no image".to_string(alloc);
+    };
+    let whole = parts_of(alloc, &whole.image)?;
+    let mut text = String::new(alloc);
+    let mut last = String::new(alloc);
+    for call in 0..MOST {
+        match run(alloc, words, image, failing(alloc, call, false)?)? {
+            Some(half) if half.status == 77 => {
+                let half = parts_of(alloc, &half.image)?;
+                let is = likeness(alloc, &half, &before, stopped.as_slice(), &whole)?;
+                if is.as_str() != last.as_str() {
+                    text.push_str(&format!(in alloc; "{call} {is}, ")?)?;
+                    last = is;
+                }
+            }
+            _ => return format!(in alloc; "{text}{call} calls"),
+        }
+    }
+    format!(in alloc; "too many calls")
 }

@@ -1,4 +1,4 @@
-//! Tests of folders: of the machine's own, and of folders of a host in memory that are opened.
+//! Tests of folders: of the machine's own, and of folders of a host in memory that are opened; and of interrupted streams.
 #![tactic(auto)]
 
 #[cfg(test)]
@@ -7,3 +7,5 @@ mod machine_tests;
 mod opening_tests;
 #[cfg(test)]
 mod run_tests;
+#[cfg(test)]
+mod stream_tests;

@@ -86,7 +86,7 @@ end
     Ok(())
 }
 
-/// A manifest is read before `tree` is gone through, and in `tree` the first object that is odd is told.
+/// A manifest is read before `tree` is read, and the first odd object in `tree` is answered.
 #[test]
 fn tells_the_first_fault(rt: HostRuntime) -> Result<(), Fail> {
     let alloc = rt.alloc();

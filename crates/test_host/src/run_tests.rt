@@ -5,7 +5,7 @@ use pv_io::{MemSink, MemSource};
 use std::fs;
 use std::test::Fail;
 
-/// The manifest that a whole run leaves.
+/// The manifest that a complete run leaves.
 const MANIFEST: &[u8] = b"tree-image 2
 d / 0755 0 0 0,0,1000000000000,1000000000000 - - - -
 d /etc 0755 0 0 0,0,0,0 - - - -
@@ -50,7 +50,7 @@ fn ran(rt: HostRuntime, options: &[&str]) -> Result<(Vec<u8>, u8), Fail> {
     Ok((Vec::from_slice(alloc, sink.written())?, status(&outcome)))
 }
 
-/// Whether a whole run from here says nothing, and leaves the directory and the manifest.
+/// Whether a complete run from here says nothing, and leaves the directory and the manifest.
 fn is_whole(rt: HostRuntime) -> Result<bool, Fail> {
     let (new_messages, status) = ran(rt, &["--create", "--root=it"])?;
     let manifest = fs::read(&rt, "it/manifest")?;

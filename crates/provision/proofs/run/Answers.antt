@@ -8,8 +8,8 @@ pub returns-clause-status : goal.returns-clause-status
 returns-clause-status g c =
     subst (λ (words : List (List ℕ)). IsStatusOf words c.args.clock_micros (g.S.Source.left c.args.source.now)
     (g.K.Sink.written c.args.sink.now) (g.K.Sink.written c.provision_all-outcome.new.sink)
-    (record { content = g.H.Host.content c.args.host.now; faults = g.H.Host.faults c.args.host.now })
-    (record { content = g.H.Host.content c.provision_all-outcome.new.host; faults = g.H.Host.faults c.provision_all-outcome.new.host })
+    (record { content = g.H.Host.content c.args.host.now; changes = g.H.Host.changes c.args.host.now; faults = g.H.Host.faults c.args.host.now })
+    (record { content = g.H.Host.content c.provision_all-outcome.new.host; changes = g.H.Host.changes c.provision_all-outcome.new.host; faults = g.H.Host.faults c.provision_all-outcome.new.host })
     (HasRisen (g.S.Source.faults c.args.source.now) (g.S.Source.faults c.provision_all-outcome.new.source))
     (HasRisen (g.K.Sink.faults c.args.sink.now) (g.K.Sink.faults c.provision_all-outcome.new.sink))
     (HasRisen (g.H.Host.faults c.args.host.now) (g.H.Host.faults c.provision_all-outcome.new.host)) (exit_status c.from.result))

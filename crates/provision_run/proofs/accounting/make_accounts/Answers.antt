@@ -1,7 +1,7 @@
 use Rattle.std.proofs.Common.{List, drop, inl, length, refl, subst}
 use Rattle.pv_sysusers.specs.Accounted.{edits_at}
 use Rattle.pv_sysusers.specs.FileWriting.{AccountWay, IsAccountStep}
-use Rattle.pv_sysusers.proofs.MendedLaws.{none_mended, run_mended}
+use Rattle.pv_sysusers.proofs.RecoveryLaws.{none_recovered, run_recovered}
 use Rattle.pv_sysusers.proofs.SweptLaws.{accounts_leave_none}
 use Rattle.pv_walk.proofs.EditLaws.{same-refl}
 use Rattle.pv_requests.specs.declared.request.Request.{Request}
@@ -10,7 +10,7 @@ use Rattle.pv_steps.specs.Trees.{places}
 use Rattle.pv_steps.proofs.ActingLaws.{Moves, acted_none, no_memory}
 use Rattle.provision_run.specs.Accounts.{accounts_work, account_messages, requests_messages, run_edits, run_requests}
 use Rattle.provision_run.proofs.FrameLaws.{none_stays, requests_framed}
-use Rattle.provision_run.proofs.AccountRereading.{accounts_mended_anew, no_requests_reread, requests_reread}
+use Rattle.provision_run.proofs.AccountRereading.{accounts_recovered_anew, no_requests_reread, requests_reread}
 use Rattle.provision_run.proofs.AccountLaws.{Finished, ended_acted, ended_end, ended_ok, ended_part, ended_messages, ended_stopped}
 use Rattle.pv_text.proofs.MessagesLaws.{messages_first}
 use Rattle.provision_run.proofs.accounting.make_accounts.Goals as goal
@@ -27,10 +27,10 @@ returns-in_err-read-clause-acted g c =
     acted_none g.T.Tree moves (AccountWay edits t) (IsAccountStep edits t) (accounts_work c.args.options.now c.args.facts.now c.args.moment t) c.args.moment c.args.tree.now
     c.from_residual.result (no_memory c.from_residual.result c.from_residual.ensures.1) (inl (same-refl t))
 
-pub returns-in_err-read-clause-mended : goal.returns-in_err-read-clause-mended
-returns-in_err-read-clause-mended g c =
+pub returns-in_err-read-clause-recovers : goal.returns-in_err-read-clause-recovers
+returns-in_err-read-clause-recovers g c =
     let t = g.T.Tree.state c.args.tree.now in
-    none_mended (run_requests c.args.options.now c.args.facts.now t) c.args.moment c.ranges.moment.fits t (g.T.Tree.steps c.args.tree.now) (g.met.T.Tree.is_tree c.args.tree.now)
+    none_recovered (run_requests c.args.options.now c.args.facts.now t) c.args.moment c.ranges.moment.fits t (g.T.Tree.steps c.args.tree.now) (g.met.T.Tree.is_tree c.args.tree.now)
 
 pub returns-clause-ok : goal.returns-clause-ok
 returns-clause-ok g c =
@@ -186,8 +186,8 @@ returns-clause-acted g c =
     }) in
     ended_acted tree c.accounts_run-answer.new.messages c.ended.new.messages c.in_ok-read.read.missing c.in_ok-read.read.invalid c.accounts_run-answer.result c.ended.result c.ended.ensures finished.acted
 
-pub returns-clause-mended : goal.returns-clause-mended
-returns-clause-mended g c =
+pub returns-clause-recovers : goal.returns-clause-recovers
+returns-clause-recovers g c =
     let tree = g.T.Tree in
     let a = c.args.tree.now in
     let b = c.accounts_run-answer.new.tree in
@@ -205,7 +205,7 @@ returns-clause-mended g c =
       part = c.accounts_run-answer.ensures.part;
       acted = c.accounts_run-answer.ensures.acted;
     }) in
-    run_mended (run_requests c.args.options.now c.args.facts.now (tree.state a)) c.args.moment c.ranges.moment.fits (run_edits c.args.options.now c.args.facts.now c.args.moment (tree.state a)) _ (tree.state a) (tree.steps a) (tree.state b) (tree.steps b)
+    run_recovered (run_requests c.args.options.now c.args.facts.now (tree.state a)) c.args.moment c.ranges.moment.fits (run_edits c.args.options.now c.args.facts.now c.args.moment (tree.state a)) _ (tree.state a) (tree.steps a) (tree.state b) (tree.steps b)
     (g.met.T.Tree.is_tree c.args.tree.now) refl finished.acted.ran
 
 pub returns-in_err-read-clause-reread : goal.returns-in_err-read-clause-reread
@@ -215,8 +215,8 @@ pub returns-in_err-read-clause-anew : goal.returns-in_err-read-clause-anew
 returns-in_err-read-clause-anew g c =
     let t = g.T.Tree.state c.args.tree.now in
     let stated = g.T.Tree.steps c.args.tree.now in
-    accounts_mended_anew c.args.options.now c.args.facts.now c.args.moment t (drop (length stated) stated) (no_requests_reread c.args.options.now c.args.facts.now c.args.moment t stated)
-    (none_mended (run_requests c.args.options.now c.args.facts.now t) c.args.moment c.ranges.moment.fits t stated (g.met.T.Tree.is_tree c.args.tree.now))
+    accounts_recovered_anew c.args.options.now c.args.facts.now c.args.moment t (drop (length stated) stated) (no_requests_reread c.args.options.now c.args.facts.now c.args.moment t stated)
+    (none_recovered (run_requests c.args.options.now c.args.facts.now t) c.args.moment c.ranges.moment.fits t stated (g.met.T.Tree.is_tree c.args.tree.now))
 
 pub returns-clause-reread : goal.returns-clause-reread
 returns-clause-reread g c =
@@ -258,9 +258,9 @@ returns-clause-anew g c =
       part = c.accounts_run-answer.ensures.part;
       acted = c.accounts_run-answer.ensures.acted;
     }) in
-    accounts_mended_anew c.args.options.now c.args.facts.now c.args.moment (tree.state a) (drop (length (tree.steps a)) (tree.steps b))
+    accounts_recovered_anew c.args.options.now c.args.facts.now c.args.moment (tree.state a) (drop (length (tree.steps a)) (tree.steps b))
     (requests_reread c.args.options.now c.args.facts.now c.args.moment (tree.state a) c.ranges.moment.fits (g.met.T.Tree.is_tree c.args.tree.now) (tree.steps a) (tree.state b) (tree.steps b) finished.acted.ran)
-    (run_mended (run_requests c.args.options.now c.args.facts.now (tree.state a)) c.args.moment c.ranges.moment.fits (run_edits c.args.options.now c.args.facts.now c.args.moment (tree.state a)) _ (tree.state a) (tree.steps a) (tree.state b) (tree.steps b)
+    (run_recovered (run_requests c.args.options.now c.args.facts.now (tree.state a)) c.args.moment c.ranges.moment.fits (run_edits c.args.options.now c.args.facts.now c.args.moment (tree.state a)) _ (tree.state a) (tree.steps a) (tree.state b) (tree.steps b)
     (g.met.T.Tree.is_tree c.args.tree.now) refl finished.acted.ran)
 
 pub returns-in_err-read-clause-framed : goal.returns-in_err-read-clause-framed

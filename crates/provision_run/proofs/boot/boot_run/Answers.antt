@@ -2,7 +2,7 @@ use Rattle.pv_create.proofs.RunLaws.{none_staged}
 use Rattle.pv_steps.specs.Courses.{Partway, IsStepOfSome}
 use Rattle.pv_table.specs.Removed.{removed}
 use Rattle.provision_run.specs.Phases.{boot_phases, phases_course}
-use Rattle.provision_run.proofs.BootLaws.{boot_amid, boot_given, boot_mended, boot_mended_again, boot_stopped}
+use Rattle.provision_run.proofs.BootLaws.{boot_amid, boot_given, boot_recovered, boot_recovered_again, boot_stopped}
 use Rattle.provision_run.proofs.PhaseFrameLaws.{phases_framed}
 use Rattle.provision_run.proofs.InputLaws.{phases_keep_input}
 use Rattle.provision_run.proofs.boot.boot_run.Goals as goal
@@ -16,12 +16,12 @@ returns-clause-staged g c =
 pub returns-clause-went : goal.returns-clause-went
 returns-clause-went g c = c.remove_then_create.ensures.went
 
-pub returns-clause-mended : goal.returns-clause-mended
-returns-clause-mended g c =
+pub returns-clause-recovers : goal.returns-clause-recovers
+returns-clause-recovers g c =
     let lines = c.args.table.now in
     let now = c.args.now in
     let t = g.T.Tree.state c.args.tree.now in
-    boot_mended lines c.lines-lines.ensures.whole (IsStepOfSome (phases_course lines now) boot_phases t) now t (g.T.Tree.steps c.args.tree.now)
+    boot_recovered lines c.lines-lines.ensures.whole (IsStepOfSome (phases_course lines now) boot_phases t) now t (g.T.Tree.steps c.args.tree.now)
     (g.T.Tree.state c.remove_then_create.new.tree) (g.T.Tree.steps c.remove_then_create.new.tree) c.ranges.now.fits (g.met.T.Tree.is_tree c.args.tree.now) c.remove_then_create.ensures.acted.ran c.lines-lines.ensures.distinct
 
 pub returns-clause-again : goal.returns-clause-again
@@ -29,7 +29,7 @@ returns-clause-again g c =
     let lines = c.args.table.now in
     let now = c.args.now in
     let t = g.T.Tree.state c.args.tree.now in
-    boot_mended_again lines c.lines-lines.ensures.whole (IsStepOfSome (phases_course lines now) boot_phases t) now t (g.T.Tree.steps c.args.tree.now)
+    boot_recovered_again lines c.lines-lines.ensures.whole (IsStepOfSome (phases_course lines now) boot_phases t) now t (g.T.Tree.steps c.args.tree.now)
     (g.T.Tree.state c.remove_then_create.new.tree) (g.T.Tree.steps c.remove_then_create.new.tree) c.ranges.now.fits (g.met.T.Tree.is_tree c.args.tree.now) c.remove_then_create.ensures.acted.ran c.lines-lines.ensures.distinct
 
 pub returns-clause-one_more : goal.returns-clause-one_more

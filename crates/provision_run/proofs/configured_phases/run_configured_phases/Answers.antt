@@ -11,16 +11,16 @@ use Rattle.pv_steps.proofs.ActingLaws.{Moves, no_memory, acted_ended, acted_none
 use Rattle.pv_steps.specs.Doing.{after_each, messages_for_each, one_is_refused, taken_by_each}
 use Rattle.pv_text.specs.GivenMessages.{MessagesPart}
 use Rattle.provision_run.specs.PhasesOnTheWay.{GiveBy, IsBetweenBy}
-use Rattle.provision_run.specs.Phases.{IsMendedBy, phases_course, phases_of}
+use Rattle.provision_run.specs.Phases.{RecoversBy, phases_course, phases_of}
 use Rattle.provision_run.specs.PhasesSwept.{IsSweptBy}
 use Rattle.pv_create.specs.OnTheWay.{IsFramed}
 use Rattle.provision_run.specs.declared.phase.Phase.{Phase}
 use Rattle.provision_run.specs.Ending.{end_of, is_uncarried}
 use Rattle.provision_run.specs.Phased.{run_lines, phases_way, is_phases_step, lines_messages, phase_messages, phases_work}
-use Rattle.provision_run.proofs.PhaseLaws.{both, failed_before, none_mended}
+use Rattle.provision_run.proofs.PhaseLaws.{both, failed_before, none_recovered}
 use Rattle.provision_run.proofs.WayLaws.{none_between, none_give}
 use Rattle.provision_run.proofs.FrameLaws.{none_stays}
-use Rattle.provision_run.proofs.RereadingLaws.{mended_anew, nothing_reread, run_anew, run_reread}
+use Rattle.provision_run.proofs.RereadingLaws.{recovered_anew, nothing_reread, run_anew, run_reread}
 use Rattle.provision_run.proofs.RunLaws.{way_start}
 use Rattle.pv_text.proofs.MessagesLaws.{messages_first, messages_then}
 use Rattle.provision_run.proofs.configured_phases.run_configured_phases.Goals as goal
@@ -39,10 +39,10 @@ returns-in_err-read-clause-acted g c =
     acted_none g.T.Tree moves (phases_way options facts c.args.moment t) (is_phases_step options facts c.args.moment t) (phases_work options facts c.args.moment t) c.args.moment c.args.tree.now
     c.from_residual.result (no_memory c.from_residual.result c.from_residual.ensures.1) (way_start options facts c.args.moment t)
 
-pub returns-in_err-read-clause-mended : goal.returns-in_err-read-clause-mended
-returns-in_err-read-clause-mended g c =
+pub returns-in_err-read-clause-recovers : goal.returns-in_err-read-clause-recovers
+returns-in_err-read-clause-recovers g c =
     let t = g.T.Tree.state c.args.tree.now in
-    none_mended (run_lines c.args.options.now c.args.facts.now t) c.args.moment t (g.T.Tree.steps c.args.tree.now) c.ranges.moment.fits (g.met.T.Tree.is_tree c.args.tree.now) (phases_of c.args.options.now)
+    none_recovered (run_lines c.args.options.now c.args.facts.now t) c.args.moment t (g.T.Tree.steps c.args.tree.now) c.ranges.moment.fits (g.met.T.Tree.is_tree c.args.tree.now) (phases_of c.args.options.now)
 
 pub returns-in_err-phases-clause-part : goal.returns-in_err-phases-clause-part
 returns-in_err-phases-clause-part g c =
@@ -58,10 +58,10 @@ returns-in_err-phases-clause-acted g c =
     acted_none g.T.Tree moves (phases_way options facts c.args.moment t) (is_phases_step options facts c.args.moment t) (phases_work options facts c.args.moment t) c.args.moment c.args.tree.now
     c.from_residual-in_err-phases.result (no_memory c.from_residual-in_err-phases.result c.from_residual-in_err-phases.ensures.1) (way_start options facts c.args.moment t)
 
-pub returns-in_err-phases-clause-mended : goal.returns-in_err-phases-clause-mended
-returns-in_err-phases-clause-mended g c =
+pub returns-in_err-phases-clause-recovers : goal.returns-in_err-phases-clause-recovers
+returns-in_err-phases-clause-recovers g c =
     let t = g.T.Tree.state c.args.tree.now in
-    none_mended (run_lines c.args.options.now c.args.facts.now t) c.args.moment t (g.T.Tree.steps c.args.tree.now) c.ranges.moment.fits (g.met.T.Tree.is_tree c.args.tree.now) (phases_of c.args.options.now)
+    none_recovered (run_lines c.args.options.now c.args.facts.now t) c.args.moment t (g.T.Tree.steps c.args.tree.now) c.ranges.moment.fits (g.met.T.Tree.is_tree c.args.tree.now) (phases_of c.args.options.now)
 
 pub returns-in_err-carried-clause-part : goal.returns-in_err-carried-clause-part
 returns-in_err-carried-clause-part g c =
@@ -90,11 +90,11 @@ returns-in_err-carried-clause-acted g c =
     (both (λ (lines : List Line) (phases : List Phase). Acted g.T.Tree (Partway (phases_course lines now) phases t) (IsStepOfSome (phases_course lines now) phases t) (taken_by_each (phases_course lines now).whole phases t) now c.args.tree.now c.run_phases.new.tree c.run_phases.result)
     c.in_ok-read.ensures.lines (c.deref.ensures.value ∙ c.in_ok-phases.ensures) c.run_phases.ensures.acted)
 
-pub returns-in_err-carried-clause-mended : goal.returns-in_err-carried-clause-mended
-returns-in_err-carried-clause-mended g c =
+pub returns-in_err-carried-clause-recovers : goal.returns-in_err-carried-clause-recovers
+returns-in_err-carried-clause-recovers g c =
     let t = g.T.Tree.state c.args.tree.now in
     let now = c.args.moment in
-    both (λ (lines : List Line) (phases : List Phase). IsMendedBy phases lines now t (drop (length (g.T.Tree.steps c.args.tree.now)) (g.T.Tree.steps c.run_phases.new.tree))) c.in_ok-read.ensures.lines (c.deref.ensures.value ∙ c.in_ok-phases.ensures) c.run_phases.ensures.mended
+    both (λ (lines : List Line) (phases : List Phase). RecoversBy phases lines now t (drop (length (g.T.Tree.steps c.args.tree.now)) (g.T.Tree.steps c.run_phases.new.tree))) c.in_ok-read.ensures.lines (c.deref.ensures.value ∙ c.in_ok-phases.ensures) c.run_phases.ensures.recovers
 
 pub returns-clause-part : goal.returns-clause-part
 returns-clause-part g c =
@@ -120,11 +120,11 @@ returns-clause-acted g c =
     (both (λ (lines : List Line) (phases : List Phase). Acted g.T.Tree (Partway (phases_course lines now) phases t) (IsStepOfSome (phases_course lines now) phases t) (taken_by_each (phases_course lines now).whole phases t) now c.args.tree.now c.run_phases.new.tree (Ok c.in_ok-carried.carried))
     c.in_ok-read.ensures.lines (c.deref.ensures.value ∙ c.in_ok-phases.ensures) c.in_ok-carried.ensures.acted)
 
-pub returns-clause-mended : goal.returns-clause-mended
-returns-clause-mended g c =
+pub returns-clause-recovers : goal.returns-clause-recovers
+returns-clause-recovers g c =
     let t = g.T.Tree.state c.args.tree.now in
     let now = c.args.moment in
-    both (λ (lines : List Line) (phases : List Phase). IsMendedBy phases lines now t (drop (length (g.T.Tree.steps c.args.tree.now)) (g.T.Tree.steps c.run_phases.new.tree))) c.in_ok-read.ensures.lines (c.deref.ensures.value ∙ c.in_ok-phases.ensures) c.run_phases.ensures.mended
+    both (λ (lines : List Line) (phases : List Phase). RecoversBy phases lines now t (drop (length (g.T.Tree.steps c.args.tree.now)) (g.T.Tree.steps c.run_phases.new.tree))) c.in_ok-read.ensures.lines (c.deref.ensures.value ∙ c.in_ok-phases.ensures) c.run_phases.ensures.recovers
 
 pub returns-clause-ok : goal.returns-clause-ok
 returns-clause-ok g c =
@@ -162,25 +162,25 @@ pub returns-in_err-read-clause-anew : goal.returns-in_err-read-clause-anew
 returns-in_err-read-clause-anew g c =
     let t = g.T.Tree.state c.args.tree.now in
     let stated = g.T.Tree.steps c.args.tree.now in
-    mended_anew c.args.options.now c.args.facts.now c.args.moment t (drop (length stated) stated) (nothing_reread c.args.options.now c.args.facts.now c.args.moment t stated)
-    (none_mended (run_lines c.args.options.now c.args.facts.now t) c.args.moment t stated c.ranges.moment.fits (g.met.T.Tree.is_tree c.args.tree.now) (phases_of c.args.options.now))
+    recovered_anew c.args.options.now c.args.facts.now c.args.moment t (drop (length stated) stated) (nothing_reread c.args.options.now c.args.facts.now c.args.moment t stated)
+    (none_recovered (run_lines c.args.options.now c.args.facts.now t) c.args.moment t stated c.ranges.moment.fits (g.met.T.Tree.is_tree c.args.tree.now) (phases_of c.args.options.now))
 
 pub returns-in_err-phases-clause-anew : goal.returns-in_err-phases-clause-anew
 returns-in_err-phases-clause-anew g c =
     let t = g.T.Tree.state c.args.tree.now in
     let stated = g.T.Tree.steps c.args.tree.now in
-    mended_anew c.args.options.now c.args.facts.now c.args.moment t (drop (length stated) stated) (nothing_reread c.args.options.now c.args.facts.now c.args.moment t stated)
-    (none_mended (run_lines c.args.options.now c.args.facts.now t) c.args.moment t stated c.ranges.moment.fits (g.met.T.Tree.is_tree c.args.tree.now) (phases_of c.args.options.now))
+    recovered_anew c.args.options.now c.args.facts.now c.args.moment t (drop (length stated) stated) (nothing_reread c.args.options.now c.args.facts.now c.args.moment t stated)
+    (none_recovered (run_lines c.args.options.now c.args.facts.now t) c.args.moment t stated c.ranges.moment.fits (g.met.T.Tree.is_tree c.args.tree.now) (phases_of c.args.options.now))
 
 pub returns-in_err-carried-clause-anew : goal.returns-in_err-carried-clause-anew
 returns-in_err-carried-clause-anew g c =
     run_anew c.args.options.now c.args.facts.now c.args.moment (g.T.Tree.state c.args.tree.now) c.ranges.moment.fits c.in_ok-read.read.table c.in_ok-read.ensures.lines c.deref.result.now (c.deref.ensures.value ∙ c.in_ok-phases.ensures)
-    c.in_ok-read.ensures.whole (g.met.T.Tree.is_tree c.args.tree.now) (g.T.Tree.steps c.args.tree.now) _ (g.T.Tree.steps c.run_phases.new.tree) c.run_phases.ensures.acted.ran c.run_phases.ensures.mended
+    c.in_ok-read.ensures.whole (g.met.T.Tree.is_tree c.args.tree.now) (g.T.Tree.steps c.args.tree.now) _ (g.T.Tree.steps c.run_phases.new.tree) c.run_phases.ensures.acted.ran c.run_phases.ensures.recovers
 
 pub returns-clause-anew : goal.returns-clause-anew
 returns-clause-anew g c =
     run_anew c.args.options.now c.args.facts.now c.args.moment (g.T.Tree.state c.args.tree.now) c.ranges.moment.fits c.in_ok-read.read.table c.in_ok-read.ensures.lines c.deref.result.now (c.deref.ensures.value ∙ c.in_ok-phases.ensures)
-    c.in_ok-read.ensures.whole (g.met.T.Tree.is_tree c.args.tree.now) (g.T.Tree.steps c.args.tree.now) _ (g.T.Tree.steps c.run_phases.new.tree) c.run_phases.ensures.acted.ran c.run_phases.ensures.mended
+    c.in_ok-read.ensures.whole (g.met.T.Tree.is_tree c.args.tree.now) (g.T.Tree.steps c.args.tree.now) _ (g.T.Tree.steps c.run_phases.new.tree) c.run_phases.ensures.acted.ran c.run_phases.ensures.recovers
 
 pub returns-in_err-read-clause-reread : goal.returns-in_err-read-clause-reread
 returns-in_err-read-clause-reread g c = nothing_reread c.args.options.now c.args.facts.now c.args.moment (g.T.Tree.state c.args.tree.now) (g.T.Tree.steps c.args.tree.now)

@@ -4,7 +4,7 @@ use Rattle.pv_steps.specs.declared.carried.Carried.TheVariants.{Whole}
 use Rattle.pv_steps.proofs.CourseLaws.{part_none}
 use Rattle.pv_steps.specs.Acting.{refused, Acted}
 use Rattle.pv_steps.proofs.ActingLaws.{acted_ended, acted_passed}
-use Rattle.provision_run.specs.Phases.{is_step_of, IsMendedBy, left_by, most_steps_of, on_way, phase_cut}
+use Rattle.provision_run.specs.Phases.{is_step_of, RecoversBy, left_by, most_steps_of, on_way, phase_cut}
 use Rattle.provision_run.specs.declared.phase.Phase.{Phase}
 use Rattle.provision_run.specs.declared.phase.Phase.TheVariants.{Remove, Clean, Purge}
 use Rattle.provision_run.proofs.PhaseLaws.{quiet_gone}
@@ -26,13 +26,13 @@ returns-in-Remove-clause-acted g c =
     subst (λ (p : Phase). Acted g.T.Tree (on_way table now p t) (is_step_of table now p t) (most_steps_of table now p t) now c.args.tree.now c.remove_run.new.tree c.remove_run.result) (sym c.in-Remove.is)
     c.remove_run.ensures.run.acted
 
-pub returns-in-Remove-clause-mended : goal.returns-in-Remove-clause-mended
-returns-in-Remove-clause-mended g c =
+pub returns-in-Remove-clause-recovers : goal.returns-in-Remove-clause-recovers
+returns-in-Remove-clause-recovers g c =
     let t = g.T.Tree.state c.args.tree.now in
     let now = c.args.now in
     let table = c.args.table.now in
-    subst (λ (p : Phase). IsMendedBy (p ∷ []) table now t (drop (length (g.T.Tree.steps c.args.tree.now)) (g.T.Tree.steps c.remove_run.new.tree))) (sym c.in-Remove.is)
-    c.remove_run.ensures.mended
+    subst (λ (p : Phase). RecoversBy (p ∷ []) table now t (drop (length (g.T.Tree.steps c.args.tree.now)) (g.T.Tree.steps c.remove_run.new.tree))) (sym c.in-Remove.is)
+    c.remove_run.ensures.recovers
 
 pub returns-in-Purge-clause-ok : goal.returns-in-Purge-clause-ok
 returns-in-Purge-clause-ok g c =
@@ -50,13 +50,13 @@ returns-in-Purge-clause-acted g c =
     subst (λ (p : Phase). Acted g.T.Tree (on_way table now p t) (is_step_of table now p t) (most_steps_of table now p t) now c.args.tree.now c.purge_run.new.tree c.purge_run.result) (sym c.in-Purge.is)
     c.purge_run.ensures.run.acted
 
-pub returns-in-Purge-clause-mended : goal.returns-in-Purge-clause-mended
-returns-in-Purge-clause-mended g c =
+pub returns-in-Purge-clause-recovers : goal.returns-in-Purge-clause-recovers
+returns-in-Purge-clause-recovers g c =
     let t = g.T.Tree.state c.args.tree.now in
     let now = c.args.now in
     let table = c.args.table.now in
-    subst (λ (p : Phase). IsMendedBy (p ∷ []) table now t (drop (length (g.T.Tree.steps c.args.tree.now)) (g.T.Tree.steps c.purge_run.new.tree))) (sym c.in-Purge.is)
-    c.purge_run.ensures.mended
+    subst (λ (p : Phase). RecoversBy (p ∷ []) table now t (drop (length (g.T.Tree.steps c.args.tree.now)) (g.T.Tree.steps c.purge_run.new.tree))) (sym c.in-Purge.is)
+    c.purge_run.ensures.recovers
 
 pub returns-in-Create-clause-acted : goal.returns-in-Create-clause-acted
 returns-in-Create-clause-acted g c =

@@ -10,7 +10,7 @@ use Rattle.provision_run.specs.PhasesSwept.{IsSweptBy}
 use Rattle.provision_run.specs.declared.phase.Phase.{Phase}
 use Rattle.provision_run.specs.declared.phase.Phase.TheVariants.{Remove}
 use Rattle.provision_run.proofs.PhaseFrameLaws.{phases_framed}
-use Rattle.provision_run.proofs.PhaseLaws.{boot_is, phases_start, phases_part, phases_acted, phases_gone, phases_mended, phases_mend, phases_next, phases_whole, phases_messages, phases_told, phases_ended, phases_done, phases_went}
+use Rattle.provision_run.proofs.PhaseLaws.{boot_is, phases_start, phases_part, phases_acted, phases_gone, phases_recovered, phases_recover, phases_next, phases_whole, phases_messages, phases_told, phases_ended, phases_done, phases_went}
 use Rattle.provision_run.proofs.SweptLaws.{phases_swept}
 use Rattle.provision_run.proofs.WayLaws.{phases_between, phases_give}
 use Rattle.provision_run.proofs.phase.run_phases.Goals as goal
@@ -62,15 +62,15 @@ returns-in_err-one-clause-acted g c =
     acted_passed g.T.Tree c.do_phase.result c.from_residual.result c.in_err-one.was c.from_residual.ensures.1
     (phases_acted g.T.Tree moves c.args.table.now c.args.now c.args.phases.now c.args.tree.now c.args.messages.now i phase c.loop-phase-test.true is c.loop-phase.carried c.loop-phase.tree c.loop-phase.messages c.loop-phase.invariant c.do_phase.ensures.acted)
 
-pub returns-in_err-one-clause-mended : goal.returns-in_err-one-clause-mended
-returns-in_err-one-clause-mended g c =
+pub returns-in_err-one-clause-recovers : goal.returns-in_err-one-clause-recovers
+returns-in_err-one-clause-recovers g c =
     let moves : Moves g.T.Tree = record { stays = g.met.T.Tree.reaches_self; goes_on = g.met.T.Tree.reaches_on; never_falls = g.met.T.Tree.never_falls } in
     let i = c.loop-phase.phase-index in
     let phase : Phase = get_or c.args.phases.now i Remove in
     let is : phase ≡ get_or c.args.phases.now i phase = get_or_default c.args.phases.now i Remove phase c.loop-phase-test.true in
-    phases_mend c.args.table.now c.args.now (g.T.Tree.state c.args.tree.now) (drop (length (g.T.Tree.steps c.args.tree.now)) (g.T.Tree.steps c.do_phase.new.tree)) c.args.phases.now (sym c.is_boot.ensures ∙ c.if-is_boot.false)
-    (phases_mended g.T.Tree moves c.args.table.now c.args.now c.args.phases.now c.args.tree.now c.args.messages.now i phase c.loop-phase-test.true is c.loop-phase.carried c.loop-phase.tree c.loop-phase.messages c.loop-phase.invariant
-    c.do_phase.new.tree c.do_phase.ensures.mended)
+    phases_recover c.args.table.now c.args.now (g.T.Tree.state c.args.tree.now) (drop (length (g.T.Tree.steps c.args.tree.now)) (g.T.Tree.steps c.do_phase.new.tree)) c.args.phases.now (sym c.is_boot.ensures ∙ c.if-is_boot.false)
+    (phases_recovered g.T.Tree moves c.args.table.now c.args.now c.args.phases.now c.args.tree.now c.args.messages.now i phase c.loop-phase-test.true is c.loop-phase.carried c.loop-phase.tree c.loop-phase.messages c.loop-phase.invariant
+    c.do_phase.new.tree c.do_phase.ensures.recovers)
 
 pub returns-in_err-one-clause-framed : goal.returns-in_err-one-clause-framed
 returns-in_err-one-clause-framed g c =
@@ -90,7 +90,7 @@ loop-phase-preserved g c =
     let phase : Phase = get_or c.args.phases.now i Remove in
     let is : phase ≡ get_or c.args.phases.now i phase = get_or_default c.args.phases.now i Remove phase c.loop-phase-test.true in
     phases_next g.T.Tree moves c.args.table.now c.args.now c.args.phases.now c.args.tree.now c.args.messages.now i phase c.loop-phase-test.true is c.loop-phase.carried c.loop-phase.tree c.loop-phase.messages c.loop-phase.invariant
-    c.do_phase.new.tree c.do_phase.new.messages c.and-carried.result c.in_ok-one.ensures.ok c.in_ok-one.ensures.new_messages c.in_ok-one.ensures.acted c.in_ok-one.ensures.went c.in_ok-one.ensures.mended
+    c.do_phase.new.tree c.do_phase.new.messages c.and-carried.result c.in_ok-one.ensures.ok c.in_ok-one.ensures.new_messages c.in_ok-one.ensures.acted c.in_ok-one.ensures.went c.in_ok-one.ensures.recovers
     (λ yet ended. c.and-carried.ensures yet (falls_short c.args.table.now c.args.now phase (g.T.Tree.state c.loop-phase.tree)) ended c.in_ok-one.ensures.carried)
 
 pub returns-clause-ok : goal.returns-clause-ok
@@ -138,9 +138,9 @@ returns-clause-went g c =
     let past : length c.args.phases.now ≤ c.loop-phase.phase-index = omega (arith, c.loop-phase-test.false) in
     phases_went g.T.Tree moves c.args.table.now c.args.now c.args.phases.now c.args.tree.now c.args.messages.now c.loop-phase.phase-index past c.loop-phase.carried c.loop-phase.tree c.loop-phase.messages c.loop-phase.invariant
 
-pub returns-clause-mended : goal.returns-clause-mended
-returns-clause-mended g c =
-    phases_mend c.args.table.now c.args.now (g.T.Tree.state c.args.tree.now) (drop (length (g.T.Tree.steps c.args.tree.now)) (g.T.Tree.steps c.loop-phase.tree)) c.args.phases.now (sym c.is_boot.ensures ∙ c.if-is_boot.false) c.loop-phase.invariant.mending.law
+pub returns-clause-recovers : goal.returns-clause-recovers
+returns-clause-recovers g c =
+    phases_recover c.args.table.now c.args.now (g.T.Tree.state c.args.tree.now) (drop (length (g.T.Tree.steps c.args.tree.now)) (g.T.Tree.steps c.loop-phase.tree)) c.args.phases.now (sym c.is_boot.ensures ∙ c.if-is_boot.false) c.loop-phase.invariant.recovering.law
 
 pub returns-clause-framed : goal.returns-clause-framed
 returns-clause-framed g c =

@@ -1,7 +1,7 @@
 use Rattle.std.proofs.Common.{◌∙◌, drop, length, refl, sym}
 use Rattle.pv_steps.proofs.ActingLaws.{Moves, no_memory}
 use Rattle.provision_run.specs.Tasks.{task_of}
-use Rattle.provision_run.proofs.TaskLaws.{accounts_acted, accounts_anew, accounts_between, accounts_ended, accounts_framed, accounts_left, accounts_mended, accounts_part, accounts_new_messages, accounts_staged, accounts_gone, accounts_gone_ok, explain_acted, explain_anew, explain_between, explain_ended, explain_framed, explain_gone, explain_left, explain_mended, explain_part, explain_path, explain_messages, explain_staged, phases_acted, phases_anew, phases_between, phases_ended, phases_framed, phases_left, phases_mended, phases_part, phases_messages, phases_staged, phases_gone, phases_gone_ok, report_acted, report_anew, report_between, report_ended, report_framed, report_gone, report_left, report_mended, report_part, report_new_messages, report_staged}
+use Rattle.provision_run.proofs.TaskLaws.{accounts_acted, accounts_anew, accounts_between, accounts_ended, accounts_framed, accounts_left, accounts_recovered, accounts_part, accounts_new_messages, accounts_staged, accounts_gone, accounts_gone_ok, explain_acted, explain_anew, explain_between, explain_ended, explain_framed, explain_gone, explain_left, explain_recovered, explain_part, explain_path, explain_messages, explain_staged, phases_acted, phases_anew, phases_between, phases_ended, phases_framed, phases_left, phases_recovered, phases_part, phases_messages, phases_staged, phases_gone, phases_gone_ok, report_acted, report_anew, report_between, report_ended, report_framed, report_gone, report_left, report_recovered, report_part, report_new_messages, report_staged}
 use Rattle.provision_run.proofs.run.run_on_tree.Goals as goal
 
 pub returns-in-Phases-clause-ok : goal.returns-in-Phases-clause-ok
@@ -36,9 +36,9 @@ pub returns-in-Phases-clause-acted : goal.returns-in-Phases-clause-acted
 returns-in-Phases-clause-acted g c =
     phases_acted g.T.Tree c.args.options.now c.args.facts.now c.args.moment (g.T.Tree.state c.args.tree.now) (task_of c.args.options.now) (sym c.in-Phases.is ∙ c.task_of.ensures) c.args.tree.now c.run_configured_phases.new.tree c.run_configured_phases.result c.run_configured_phases.ensures.acted
 
-pub returns-in-Phases-clause-mended : goal.returns-in-Phases-clause-mended
-returns-in-Phases-clause-mended g c =
-    phases_mended c.args.options.now c.args.facts.now c.args.moment (g.T.Tree.state c.args.tree.now) (task_of c.args.options.now) (sym c.in-Phases.is ∙ c.task_of.ensures) (drop (length (g.T.Tree.steps c.args.tree.now)) (g.T.Tree.steps c.run_configured_phases.new.tree)) c.run_configured_phases.ensures.mended
+pub returns-in-Phases-clause-recovers : goal.returns-in-Phases-clause-recovers
+returns-in-Phases-clause-recovers g c =
+    phases_recovered c.args.options.now c.args.facts.now c.args.moment (g.T.Tree.state c.args.tree.now) (task_of c.args.options.now) (sym c.in-Phases.is ∙ c.task_of.ensures) (drop (length (g.T.Tree.steps c.args.tree.now)) (g.T.Tree.steps c.run_configured_phases.new.tree)) c.run_configured_phases.ensures.recovers
 
 pub returns-in-Phases-clause-anew : goal.returns-in-Phases-clause-anew
 returns-in-Phases-clause-anew g c =
@@ -80,9 +80,9 @@ pub returns-in-Accounts-clause-acted : goal.returns-in-Accounts-clause-acted
 returns-in-Accounts-clause-acted g c =
     accounts_acted g.T.Tree c.args.options.now c.args.facts.now c.args.moment (g.T.Tree.state c.args.tree.now) (task_of c.args.options.now) (sym c.in-Accounts.is ∙ c.task_of.ensures) c.args.tree.now c.make_accounts.new.tree c.make_accounts.result c.make_accounts.ensures.acted
 
-pub returns-in-Accounts-clause-mended : goal.returns-in-Accounts-clause-mended
-returns-in-Accounts-clause-mended g c =
-    accounts_mended c.args.options.now c.args.facts.now c.args.moment (g.T.Tree.state c.args.tree.now) (task_of c.args.options.now) (sym c.in-Accounts.is ∙ c.task_of.ensures) (drop (length (g.T.Tree.steps c.args.tree.now)) (g.T.Tree.steps c.make_accounts.new.tree)) c.make_accounts.ensures.mended
+pub returns-in-Accounts-clause-recovers : goal.returns-in-Accounts-clause-recovers
+returns-in-Accounts-clause-recovers g c =
+    accounts_recovered c.args.options.now c.args.facts.now c.args.moment (g.T.Tree.state c.args.tree.now) (task_of c.args.options.now) (sym c.in-Accounts.is ∙ c.task_of.ensures) (drop (length (g.T.Tree.steps c.args.tree.now)) (g.T.Tree.steps c.make_accounts.new.tree)) c.make_accounts.ensures.recovers
 
 pub returns-in-Accounts-clause-anew : goal.returns-in-Accounts-clause-anew
 returns-in-Accounts-clause-anew g c =
@@ -101,9 +101,9 @@ returns-in_err-report_run-in-Report-clause-acted g c =
     let moves : Moves g.T.Tree = record { stays = g.met.T.Tree.reaches_self; goes_on = g.met.T.Tree.reaches_on; never_falls = g.met.T.Tree.never_falls } in
     report_acted g.T.Tree c.args.options.now c.args.facts.now c.args.moment (g.T.Tree.state c.args.tree.now) (task_of c.args.options.now) (sym c.in-Report.is ∙ c.task_of.ensures) moves c.args.tree.now c.from_residual.result refl (no_memory c.from_residual.result c.from_residual.ensures.1)
 
-pub returns-in_err-report_run-in-Report-clause-mended : goal.returns-in_err-report_run-in-Report-clause-mended
-returns-in_err-report_run-in-Report-clause-mended g c =
-    report_mended c.args.options.now c.args.facts.now c.args.moment (g.T.Tree.state c.args.tree.now) (task_of c.args.options.now) (sym c.in-Report.is ∙ c.task_of.ensures) (g.T.Tree.steps c.args.tree.now)
+pub returns-in_err-report_run-in-Report-clause-recovers : goal.returns-in_err-report_run-in-Report-clause-recovers
+returns-in_err-report_run-in-Report-clause-recovers g c =
+    report_recovered c.args.options.now c.args.facts.now c.args.moment (g.T.Tree.state c.args.tree.now) (task_of c.args.options.now) (sym c.in-Report.is ∙ c.task_of.ensures) (g.T.Tree.steps c.args.tree.now)
 
 pub returns-in_err-report_run-in-Report-clause-anew : goal.returns-in_err-report_run-in-Report-clause-anew
 returns-in_err-report_run-in-Report-clause-anew g c =
@@ -142,9 +142,9 @@ returns-in_ok-report_run-in-Report-clause-acted g c =
     let moves : Moves g.T.Tree = record { stays = g.met.T.Tree.reaches_self; goes_on = g.met.T.Tree.reaches_on; never_falls = g.met.T.Tree.never_falls } in
     report_acted g.T.Tree c.args.options.now c.args.facts.now c.args.moment (g.T.Tree.state c.args.tree.now) (task_of c.args.options.now) (sym c.in-Report.is ∙ c.task_of.ensures) moves c.args.tree.now _ refl refl
 
-pub returns-in_ok-report_run-in-Report-clause-mended : goal.returns-in_ok-report_run-in-Report-clause-mended
-returns-in_ok-report_run-in-Report-clause-mended g c =
-    report_mended c.args.options.now c.args.facts.now c.args.moment (g.T.Tree.state c.args.tree.now) (task_of c.args.options.now) (sym c.in-Report.is ∙ c.task_of.ensures) (g.T.Tree.steps c.args.tree.now)
+pub returns-in_ok-report_run-in-Report-clause-recovers : goal.returns-in_ok-report_run-in-Report-clause-recovers
+returns-in_ok-report_run-in-Report-clause-recovers g c =
+    report_recovered c.args.options.now c.args.facts.now c.args.moment (g.T.Tree.state c.args.tree.now) (task_of c.args.options.now) (sym c.in-Report.is ∙ c.task_of.ensures) (g.T.Tree.steps c.args.tree.now)
 
 pub returns-in_ok-report_run-in-Report-clause-anew : goal.returns-in_ok-report_run-in-Report-clause-anew
 returns-in_ok-report_run-in-Report-clause-anew g c =
@@ -179,9 +179,9 @@ returns-in_err-explain_run-in-Explain-clause-acted g c =
     let moves : Moves g.T.Tree = record { stays = g.met.T.Tree.reaches_self; goes_on = g.met.T.Tree.reaches_on; never_falls = g.met.T.Tree.never_falls } in
     explain_acted g.T.Tree c.args.options.now c.args.facts.now c.args.moment (g.T.Tree.state c.args.tree.now) (task_of c.args.options.now) (sym c.in-Explain.is ∙ c.task_of.ensures) moves c.args.tree.now c.from_residual-in_err-explain_run-in-Explain.result refl (no_memory c.from_residual-in_err-explain_run-in-Explain.result c.from_residual-in_err-explain_run-in-Explain.ensures.1)
 
-pub returns-in_err-explain_run-in-Explain-clause-mended : goal.returns-in_err-explain_run-in-Explain-clause-mended
-returns-in_err-explain_run-in-Explain-clause-mended g c =
-    explain_mended c.args.options.now c.args.facts.now c.args.moment (g.T.Tree.state c.args.tree.now) (task_of c.args.options.now) (sym c.in-Explain.is ∙ c.task_of.ensures) (g.T.Tree.steps c.args.tree.now)
+pub returns-in_err-explain_run-in-Explain-clause-recovers : goal.returns-in_err-explain_run-in-Explain-clause-recovers
+returns-in_err-explain_run-in-Explain-clause-recovers g c =
+    explain_recovered c.args.options.now c.args.facts.now c.args.moment (g.T.Tree.state c.args.tree.now) (task_of c.args.options.now) (sym c.in-Explain.is ∙ c.task_of.ensures) (g.T.Tree.steps c.args.tree.now)
 
 pub returns-in_err-explain_run-in-Explain-clause-anew : goal.returns-in_err-explain_run-in-Explain-clause-anew
 returns-in_err-explain_run-in-Explain-clause-anew g c =
@@ -220,9 +220,9 @@ returns-in_ok-explain_run-in-Explain-clause-acted g c =
     let moves : Moves g.T.Tree = record { stays = g.met.T.Tree.reaches_self; goes_on = g.met.T.Tree.reaches_on; never_falls = g.met.T.Tree.never_falls } in
     explain_acted g.T.Tree c.args.options.now c.args.facts.now c.args.moment (g.T.Tree.state c.args.tree.now) (task_of c.args.options.now) (sym c.in-Explain.is ∙ c.task_of.ensures) moves c.args.tree.now _ refl refl
 
-pub returns-in_ok-explain_run-in-Explain-clause-mended : goal.returns-in_ok-explain_run-in-Explain-clause-mended
-returns-in_ok-explain_run-in-Explain-clause-mended g c =
-    explain_mended c.args.options.now c.args.facts.now c.args.moment (g.T.Tree.state c.args.tree.now) (task_of c.args.options.now) (sym c.in-Explain.is ∙ c.task_of.ensures) (g.T.Tree.steps c.args.tree.now)
+pub returns-in_ok-explain_run-in-Explain-clause-recovers : goal.returns-in_ok-explain_run-in-Explain-clause-recovers
+returns-in_ok-explain_run-in-Explain-clause-recovers g c =
+    explain_recovered c.args.options.now c.args.facts.now c.args.moment (g.T.Tree.state c.args.tree.now) (task_of c.args.options.now) (sym c.in-Explain.is ∙ c.task_of.ensures) (g.T.Tree.steps c.args.tree.now)
 
 pub returns-in_ok-explain_run-in-Explain-clause-anew : goal.returns-in_ok-explain_run-in-Explain-clause-anew
 returns-in_ok-explain_run-in-Explain-clause-anew g c =

@@ -22,7 +22,7 @@ returns-in-Ok-clause-read_fault g c = λ e.
 
 pub returns-in-Err-Memory-clause-on_folder : goal.returns-in-Err-Memory-clause-on_folder
 returns-in-Err-Memory-clause-on_folder g c =
-    of_any (rooted_of (map string_bytes c.args.words.now)) c.args.clock_micros (told g.H.Host.content g.H.Host.faults c.args.host.now) _ _ (Appends-nil (g.K.Sink.written c.args.sink.now))
+    of_any (rooted_of (map string_bytes c.args.words.now)) c.args.clock_micros (told g.H.Host.content g.H.Host.changes g.H.Host.faults c.args.host.now) _ _ (Appends-nil (g.K.Sink.written c.args.sink.now))
 
 pub returns-in-Err-Memory-clause-generated : goal.returns-in-Err-Memory-clause-generated
 returns-in-Err-Memory-clause-generated g c = λ seed count e. generated_nothing seed count _ _ (Appends-nil (g.K.Sink.written c.args.sink.now))

@@ -1,6 +1,6 @@
 use Rattle.std.proofs.Common.{List, ◌∙◌, ◌++◌, ap, ℕ}
 use Rattle.pv_folder.specs.Content.{spelled}
-use Rattle.pv_folder.proofs.Spelling.{spelled-add}
+use Rattle.pv_folder.proofs.SpellingLaws.{spelled-add}
 use Rattle.pv_folder.proofs.host_path.add_name.Goals as goal
 
 pub returns : goal.returns

@@ -6,7 +6,7 @@ use Rattle.pv_folder.proofs.merging.merge_into.Given as goal
 -- what the walk has passed is merged
 abbrev pub invariant-loop-place : goal.invariant-loop-place
 invariant-loop-place l =
-    IsMerging l.manifest.files l.initial.tree.files l.tree.files l.new_messages × (l.tree.steps ≡ l.initial.tree.steps) × IsTree l.manifest.files
+    IsMerging l.manifest.files l.initial.tree.files l.tree.files l.entries × (l.tree.steps ≡ l.initial.tree.steps) × IsTree l.manifest.files
 
 abbrev pub decreases-loop-place : goal.decreases-loop-place
-decreases-loop-place l = length l.new_messages
+decreases-loop-place l = length l.entries

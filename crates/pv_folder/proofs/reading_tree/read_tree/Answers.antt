@@ -31,6 +31,7 @@ loop-found-init g c =
       c.items_in_tree.ensures.kept,
       c.items_in_tree.ensures.never_falls,
       plain_first r.builder from_content.builder,
+      c.items_in_tree.ensures.unasked,
     )
 
 pub returns-in_err-path-clause-fault : goal.returns-in_err-path-clause-fault
@@ -107,6 +108,7 @@ loop-found-preserved g c =
       c.look.ensures.kept ∙ c.loop-found.invariant.3,
       omega (arith, c.look.ensures.never_falls, c.loop-found.invariant.4),
       plain_on r.builder.files (path_of x) s c.take.new.self.builder builder c.loop-found.invariant.5,
+      c.look.ensures.unasked ∙ c.loop-found.invariant.6,
     )
 
 pub returns-clause-real : goal.returns-clause-real

@@ -11,7 +11,7 @@ invariant-loop-found g l =
     IsGoing (g.H.Host.content l.fn.host) (spelled l.folder) l.reading.objects l.reading.bytes l.reading.builder.files l.reading.builder.last l.reading.pending.items
     × (l.reading.objects ≤ most_objects) × (l.reading.bytes ≤ most_bytes)
     × (g.H.Host.content l.host ≡ g.H.Host.content l.fn.host) × (g.H.Host.faults l.fn.host ≤ g.H.Host.faults l.host)
-    × IsPlain l.reading.builder.files
+    × IsPlain l.reading.builder.files × (g.H.Host.changes l.host ≡ g.H.Host.changes l.fn.host)
 
 abbrev pub decreases-loop-found : goal.decreases-loop-found
 decreases-loop-found g l = most_objects + 1 - l.reading.objects

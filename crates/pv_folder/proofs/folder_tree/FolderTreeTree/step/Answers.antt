@@ -1,11 +1,13 @@
 use Rattle.std.proofs.Common.{◌≡◌, ◌∙◌, true, false, ap, refl, subst, sym}
 use Rattle.std.specs.Prelude.{IfSome}
+use Rattle.std.specs.Option.{option_to_list}
 use Rattle.pv_path.specs.Paths.{Path}
 use Rattle.pv_steps.specs.Trees.{Files, places}
 use Rattle.pv_folder.specs.Content.{held, spelled}
 use Rattle.pv_folder.specs.Folders.{Agrees, tree_path}
-use Rattle.pv_folder.specs.Keeping.{IsAtMostAhead, IsChangedBy, MayAskFor, change_for}
-use Rattle.pv_folder.proofs.ReadyLaws.{agrees_step, is_ahead, may_ask_for, moves_asked, outside_step, ready_step}
+use Rattle.pv_folder.specs.Keeping.{IsChangedBy, MayAskFor, change_for}
+use Rattle.pv_folder.specs.Made.{AreRecorded}
+use Rattle.pv_folder.proofs.ReadyLaws.{agrees_step, may_ask_for, moves_done, moves_half, outside_step, ready_step}
 use Rattle.pv_folder.proofs.folder_tree.FolderTreeTree.step.Goals as goal
 
 pub ask_for-requires : goal.ask_for-requires
@@ -33,12 +35,14 @@ returns-in_err-step-clause-reaches g c =
     let old = g.H.Host.content c.args.self.now.host.now in
     let new = g.H.Host.content c.ask_for.new.host in
     let asked : IsChangedBy (change_for (tree_path folder) (places c.args.self.now.tree.files) c.args.step.now) old new =
-    subst (λ (f : Path). IsChangedBy (change_for (tree_path f) (places c.args.self.now.tree.files) c.args.step.now) old new) (ap spelled c.deref.ensures.value) c.in-Ok.ensures.done in (
+    subst (λ (f : Path). IsChangedBy (change_for (tree_path f) (places c.args.self.now.tree.files) c.args.step.now) old new) (ap spelled c.deref.ensures.value) c.in-Ok.ensures.done in
+    let recorded : AreRecorded (option_to_list (change_for (tree_path folder) (places c.args.self.now.tree.files) c.args.step.now)) (g.H.Host.changes c.args.self.now.host.now) (g.H.Host.changes c.ask_for.new.host) =
+    subst (λ (f : Path). AreRecorded (option_to_list (change_for (tree_path f) (places c.args.self.now.tree.files) c.args.step.now)) (g.H.Host.changes c.args.self.now.host.now) (g.H.Host.changes c.ask_for.new.host)) (ap spelled c.deref.ensures.value) c.in-Ok.ensures.recorded in
+    let outside = outside_step folder c.args.self.now.tree.files c.args.step.now c.args.now c.args.self.now.tree.tree c.requires c.parts_fit.ensures old new asked in (
       refl,
-      moves_asked folder c.args.self.now.tree.files _ old new _ _ c.args.self.now.pending true (outside_step folder c.args.self.now.tree.files c.args.step.now c.args.now c.args.self.now.tree.tree c.requires c.parts_fit.ensures old new asked) c.ask_for.ensures.never_falls (λ h. refl)
-          (λ h. subst (λ (t : Files). IfSome new (λ x. IsAtMostAhead folder t (held x))) (sym c.in_err-step.ensures.kept)
-          (is_ahead folder c.args.self.now.tree.files c.args.step.now c.args.now new c.requires
-          (agrees_step folder c.args.self.now.tree.files c.args.step.now c.args.now c.args.self.now.tree.tree c.requires c.parts_fit.ensures old new asked (c.args.self.now.agrees c.if-self.false)))),
+      moves_half folder c.args.self.now.tree.files _ c.args.self.now.tree.steps _ old new _ _ _ _ c.args.self.now.pending true c.if-self.false c.ask_for.ensures.never_falls
+          c.args.step.now c.args.now outside asked recorded refl c.in_err-step.ensures.kept c.in_err-step.ensures.unrecorded c.requires c.parts_fit.ensures
+          (agrees_step folder c.args.self.now.tree.files c.args.step.now c.args.now c.args.self.now.tree.tree c.requires c.parts_fit.ensures old new asked (c.args.self.now.agrees c.if-self.false)),
     )
 
 pub invariant_of-self-2 : goal.invariant_of-self-2
@@ -61,10 +65,13 @@ returns-clause-reaches g c =
     let old = g.H.Host.content c.args.self.now.host.now in
     let new = g.H.Host.content c.ask_for.new.host in
     let asked : IsChangedBy (change_for (tree_path folder) (places c.args.self.now.tree.files) c.args.step.now) old new =
-    subst (λ (f : Path). IsChangedBy (change_for (tree_path f) (places c.args.self.now.tree.files) c.args.step.now) old new) (ap spelled c.deref.ensures.value) c.in-Ok.ensures.done in (
+    subst (λ (f : Path). IsChangedBy (change_for (tree_path f) (places c.args.self.now.tree.files) c.args.step.now) old new) (ap spelled c.deref.ensures.value) c.in-Ok.ensures.done in
+    let recorded : AreRecorded (option_to_list (change_for (tree_path folder) (places c.args.self.now.tree.files) c.args.step.now)) (g.H.Host.changes c.args.self.now.host.now) (g.H.Host.changes c.ask_for.new.host) =
+    subst (λ (f : Path). AreRecorded (option_to_list (change_for (tree_path f) (places c.args.self.now.tree.files) c.args.step.now)) (g.H.Host.changes c.args.self.now.host.now) (g.H.Host.changes c.ask_for.new.host)) (ap spelled c.deref.ensures.value) c.in-Ok.ensures.recorded in
+    let outside = outside_step folder c.args.self.now.tree.files c.args.step.now c.args.now c.args.self.now.tree.tree c.requires c.parts_fit.ensures old new asked in (
       refl,
-      moves_asked folder c.args.self.now.tree.files _ old new _ _ c.args.self.now.pending false (outside_step folder c.args.self.now.tree.files c.args.step.now c.args.now c.args.self.now.tree.tree c.requires c.parts_fit.ensures old new asked) c.ask_for.ensures.never_falls (λ h. sym c.if-self.false ∙ h)
-          (λ h. absurd (let no : false ≡ true = h in cc)),
+      moves_done folder c.args.self.now.tree.files _ c.args.self.now.tree.steps _ old new _ _ _ _ c.args.self.now.pending false c.if-self.false c.ask_for.ensures.never_falls
+          c.args.step.now c.args.now outside asked recorded refl c.in_ok-step.ensures.state c.in_ok-step.ensures.recorded,
     )
 
 pub returns-clause-changed : goal.returns-clause-changed
@@ -75,3 +82,10 @@ returns-clause-changed g c =
     let asked : IsChangedBy (change_for (tree_path folder) (places c.args.self.now.tree.files) c.args.step.now) old new =
     subst (λ (f : Path). IsChangedBy (change_for (tree_path f) (places c.args.self.now.tree.files) c.args.step.now) old new) (ap spelled c.deref.ensures.value) c.in-Ok.ensures.done in
     asked
+
+pub returns-clause-asked : goal.returns-clause-asked
+returns-clause-asked g c =
+    let folder = spelled c.args.self.now.folder.items in
+    let recorded : AreRecorded (option_to_list (change_for (tree_path folder) (places c.args.self.now.tree.files) c.args.step.now)) (g.H.Host.changes c.args.self.now.host.now) (g.H.Host.changes c.ask_for.new.host) =
+    subst (λ (f : Path). AreRecorded (option_to_list (change_for (tree_path f) (places c.args.self.now.tree.files) c.args.step.now)) (g.H.Host.changes c.args.self.now.host.now) (g.H.Host.changes c.ask_for.new.host)) (ap spelled c.deref.ensures.value) c.in-Ok.ensures.recorded in
+    recorded

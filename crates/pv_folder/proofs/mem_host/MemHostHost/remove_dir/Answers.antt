@@ -12,5 +12,5 @@ named_path-requires c =
     (is_content c.args.self.now.tree.files c.args.self.now.tree.tree).names (spelled c.args.path.now)
     (kind_there c.args.self.now.tree.files (held (content_of c.args.self.now.tree.files)) (spelled c.args.path.now) named.Directory c.requires.0)
 
-pub remove_dir-requires : goal.remove_dir-requires
-remove_dir-requires c = subst (λ (p : Path). May (held (content_of c.args.self.now.tree.files)) (RemoveDir p)) (sym c.in_ok-path.ensures) c.requires
+pub do_recorded-requires : goal.do_recorded-requires
+do_recorded-requires c = subst (λ (p : Path). May (held (content_of c.args.self.now.tree.files)) (RemoveDir p)) (sym c.in_ok-path.ensures) c.requires

@@ -1,5 +1,5 @@
 use Rattle.provision_run.proofs.StopsLaws.{accounts_over, phases_over}
-use Rattle.provision_run.proofs.laws.outputs_of_stopped_runs_are_mended.Goals as goal
+use Rattle.provision_run.proofs.laws.outputs_of_stopped_runs_recover.Goals as goal
 
 pub returns-clause-phases : goal.returns-clause-phases
 returns-clause-phases c = λ options moments moment first later input last out again facts t image is plain may runs calm whole second.

@@ -1,5 +1,5 @@
-use Rattle.provision_run.proofs.FolderMending.{accounts_on, phases_on}
-use Rattle.provision_run.proofs.laws.folders_of_stopped_runs_are_mended.Goals as goal
+use Rattle.provision_run.proofs.FolderRecovery.{accounts_on, phases_on}
+use Rattle.provision_run.proofs.laws.folders_of_stopped_runs_recover.Goals as goal
 
 pub returns-clause-phases : goal.returns-clause-phases
 returns-clause-phases c = λ options folder moments moment first later old last one again facts t opened is plain may runs calm whole second.

@@ -1,4 +1,4 @@
--- Runs on a folder that were broken off, one or more, each on what the last one left there, are mended by a whole run.
+-- Runs on a folder that were broken off, one or more, each on what the last one left there, recover by a complete run.
 use Rattle.std.specs.Prelude.{◌≡◌, ℕ, List, [], ◌∷◌, Some, None}
 use Rattle.std.proofs.Common.{refl, sym, ap, subst, ◌∙◌}
 use Rattle.pv_folder.proofs.OpeningLaws.{reopened}
@@ -28,7 +28,7 @@ use Rattle.provision_run.specs.Stops.{EndAlikeAfter, HasStopped, HaveStopped, un
 use Rattle.provision_run.specs.Tasks.{task_of}
 use Rattle.provision_run.specs.Whole.{final, final_by}
 use Rattle.provision_run.specs.Words.{moment_of}
-use Rattle.provision_run.proofs.StopsLaws.{accounts_alike, broken_by, left_by, phases_mended}
+use Rattle.provision_run.proofs.StopsLaws.{accounts_alike, broken_by, left_by, phases_recovered}
 
 -- ---- a folder is opened in one way
 
@@ -42,7 +42,7 @@ says_once folder c f g t u (present x a one) (present y b two) =
     one_image y f g t u (subst (λ (bytes : List ℕ). IsImage bytes f t) bytes one) two
 
 -- it is opened with no other facts and no other tree
-abbrev OpensWith : Path → Content → Values → Files → Type 0
+abbrev pub OpensWith : Path → Content → Values → Files → Type 0
 OpensWith folder c facts t = (f : Values) (u : Files) → IsOpened folder c f u → (f ≡ facts) × (u ≡ t)
 
 module _ (folder : Path) (c : Content) (facts : Values) (t : Files) where
@@ -51,7 +51,7 @@ module _ (folder : Path) (c : Content) (facts : Values) (t : Files) where
       let same = says_once folder c f facts other.manifest manifest other.says says in
       (same.0, other.is_merged ∙ ap (λ (m : Files). merged m (real_in folder c)) same.1 ∙ sym is)
 
-  opened_once : IsOpened folder c facts t → OpensWith folder c facts t
+  pub opened_once : IsOpened folder c facts t → OpensWith folder c facts t
   opened_once opened = same_opened opened.manifest opened.says opened.is_merged
 
   -- one in which a tree is kept is opened with this tree
@@ -59,7 +59,7 @@ module _ (folder : Path) (c : Content) (facts : Values) (t : Files) where
   kept_opens old kept =
       same_opened (with_empty_files t) (present (manifest_of facts t) kept.manifest kept.image) (sym (reopened folder c t kept.image.fit.tree kept.agrees))
 
-kept_from : (folder : Path) (facts : Values) (t : Files) (old mid new : Held) → IsSameBeside folder old mid → IsKept folder facts t mid new → IsKept folder facts t old new
+pub kept_from : (folder : Path) (facts : Values) (t : Files) (old mid new : Held) → IsSameBeside folder old mid → IsKept folder facts t mid new → IsKept folder facts t old new
 kept_from folder facts t old mid new same kept = record {
   agrees = kept.agrees;
   manifest = kept.manifest;
@@ -80,9 +80,9 @@ record HasGoneOn (folder : Path) (options : Options) (moment : ℕ) (old new : C
 
 gone_on : (folder : Path) (options : Options) (clock : ℕ) (old new : Content) → WasBrokenOff folder options clock old new → HasGoneOn folder options (moment_of options clock) old new
 gone_on folder options clock old new (stopped count messages run) =
-    record { facts = run.facts; tree = run.tree; left = run.left; opened = run.opened; gone = run.run.cut.gone; kept = run.kept }
+    record { facts = run.facts; tree = run.tree; left = run.left; opened = run.opened.1; gone = run.run.cut.gone; kept = run.kept }
 gone_on folder options clock old new (failed messages cut) =
-    record { facts = cut.facts; tree = cut.tree; left = cut.left; opened = cut.opened; gone = cut.run.1.1.gone; kept = cut.kept }
+    record { facts = cut.facts; tree = cut.tree; left = cut.left; opened = cut.opened.1; gone = cut.run.1.1.gone; kept = cut.kept }
 gone_on folder options clock old new (short facts tree left opened gone kept) =
     record { facts = facts; tree = tree; left = left; opened = opened; gone = gone; kept = kept }
 
@@ -130,10 +130,10 @@ module _ (options : Options) (folder : Path) where
 
     -- one that was not stopped
     module _ (whole : HasEndedOn options folder moment old new) where
-      whole_opened : IsOpened folder old whole.run.facts whole.run.tree
-      whole_opened = subst (λ (f : Path). IsOpened f old whole.run.facts whole.run.tree) whole.like.named whole.run.opened
+      pub whole_opened : IsOpened folder old whole.run.facts whole.run.tree
+      whole_opened = subst (λ (f : Path). IsOpened f old whole.run.facts whole.run.tree) whole.like.named whole.run.opened.1
 
-      abbrev whole_same : (whole.run.facts ≡ facts) × (whole.run.tree ≡ t)
+      abbrev pub whole_same : (whole.run.facts ≡ facts) × (whole.run.tree ≡ t)
       whole_same = opens whole.run.facts whole.run.tree whole_opened
 
       opened_for : IsOpened folder old facts t
@@ -147,7 +147,7 @@ module _ (options : Options) (folder : Path) where
           (subst (λ (s : Files). HasRun whole.like.own.options facts (moment_of whole.like.own.options whole.clock) s (outcome_of whole.end) whole.messages whole.run.left) whole_same.1
           (subst (λ (f : Values). HasRun whole.like.own.options f (moment_of whole.like.own.options whole.clock) whole.run.tree (outcome_of whole.end) whole.messages whole.run.left) whole_same.0 whole.run.run))
 
-      whole_kept : IsKept folder facts (final (unlimited options) facts moment t) (held old) (held new)
+      pub whole_kept : IsKept folder facts (final (unlimited options) facts moment t) (held old) (held new)
       whole_kept =
           subst (λ (left : Files). IsKept folder facts left (held old) (held new))
           (left_by options whole.like.own.options whole.like.alike facts moment t whole.end whole.messages whole.run.left whole_run)
@@ -195,7 +195,7 @@ module _ (options : Options) (folder : Path) where
     unfolding final_by
     phases_on is plain may calm = both_folders (λ one two. Same two one)
         (subst (λ (task : Task). Same (final_by task (unlimited options) facts later come.left) (final_by task (unlimited options) facts first t)) (sym is)
-        (phases_mended (unlimited options) facts plain is moments moment first later t come.left may come.runs
+        (phases_recovered (unlimited options) facts plain is moments moment first later t come.left may come.runs
         (calm facts come.left (opened_for facts come.left last again come.opens later second))))
 
     pub accounts_on : task_of options ≡ Accounts → ArePlainRequests options → AreFolders (EndAlikeAfter first (later ∷ moment ∷ moments)) folder old one again

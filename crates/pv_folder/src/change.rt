@@ -1,0 +1,29 @@
+//! The changes of a host in memory, as it records them.
+ghost use Rattle.std.specs.Prelude.{◌≡◌, IfOk};
+
+use pv_path::{Bytes, TreePath};
+use std::alloc::AllocError;
+
+/// One change of a host.
+#[derive(Clone, Drop)]
+pub(crate) enum HostChange {
+    /// A directory was made.
+    MakeDir { path: TreePath },
+    /// A file was written whole.
+    WriteFile { path: TreePath, bytes: Bytes },
+    /// What stood at and below a path was moved to another.
+    Rename { from: TreePath, to: TreePath },
+    /// A file was removed.
+    RemoveFile { path: TreePath },
+    /// An empty directory was removed.
+    RemoveDir { path: TreePath },
+}
+
+impl HostChange {
+    /// A copy of the change.
+    pub(crate) fn copy(&self) -> Result<HostChange, AllocError>
+        ensures { IfOk result (λ change. change ≡ self.now) }
+    {
+        self.clone()
+    }
+}
