@@ -1,5 +1,5 @@
-//! Lists all directories and reads all files below `it/tree`, and writes the manifest beside it once more, through the host
-//! alone: what a run on a folder is measured against.
+//! Lists all directories and reads all files below `it/tree`, and writes the manifest beside it once more, through the
+//! host alone. A run on a folder is compared with it.
 #![tactic(auto)]
 
 use pv_folder::{Host, HostFault, HostKind, RealHost};

@@ -1,5 +1,5 @@
 //! `bench_shared_path PATTERN PATTERN [TIMES]`: prints the first path that two patterns share, or `none`. With a number
-//! it asks so many times, so that the cost of a question can be measured.
+//! it asks so many times, so that the cost of a query can be measured.
 #![tactic(auto)]
 
 use pv_glob::{Reach, meet, parse_pattern};
@@ -17,7 +17,7 @@ fn words_of(rt: &HostRuntime) -> io::Result<Vec<String>> {
     Ok(words)
 }
 
-/// The paths that a word matches as a pattern, or nothing where it spells none.
+/// The paths that a word matches as a pattern, or nothing if it spells none.
 fn reach_of(alloc: Global, word: &String) -> Option<Reach> {
     match parse_pattern(alloc, word.as_bytes()) {
         Ok(pattern) => Some(Reach {
@@ -52,7 +52,7 @@ fn line_of(alloc: Global, path: &Option<TreePath>) -> Result<String, AllocError>
     }
 }
 
-/// Answers the question of the words, or nothing where they have no meaning or memory runs out.
+/// The answer to the words, or nothing if they have no meaning or memory runs out.
 fn answer(alloc: Global, words: &[String]) -> Option<String> {
     let (first, second, times) = match words {
         [first, second] => (first, second, 1),

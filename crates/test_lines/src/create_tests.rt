@@ -40,7 +40,7 @@ fn source<'a>(line: &Line, standing: &'a Standing) -> Option<&'a ObjectState> {
     }
 }
 
-/// The owner of what a line would make: its user, else that of what it copies, else root.
+/// The owner of what a line would make: its user, otherwise that of what it copies, otherwise root.
 fn owner_made(line: &Line, standing: &Standing) -> u32 {
     match line.user {
         Some(user) => user.id,

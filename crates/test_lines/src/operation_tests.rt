@@ -8,7 +8,7 @@ use std::alloc::{AllocError, Global};
 use std::test::Fail;
 use test_sheet::{attrs_of, letters_of, plain_node};
 
-/// What a row of a table asks for. New objects are owned by 9; modes and entries are for what is no link.
+/// What a row of a table asks for. New objects are owned by 9. Modes and entries are for objects that are not links.
 #[derive(Clone, Copy)]
 enum Ask<'a> {
     Make(Kind, &'a [u8]),

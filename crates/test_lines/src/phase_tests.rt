@@ -81,8 +81,8 @@ fn all_go(things: &[Thing], going: &[TreePath], path: &TreePath) -> bool {
     things.iter().all(|thing| !is_child(path, &thing.path) || going.contains(&thing.path))
 }
 
-/// `R` takes what it names with all below, `D` what lies below a directory that it names, and `r` what it names, if it is
-/// no directory or nothing stays in it.
+/// `R` removes what it names with all below. `D` removes all below a directory that it names. `r` removes what it
+/// names, if it is not a directory or nothing stays in it.
 fn takes(line: &Line, things: &[Thing], going: &[TreePath], path: &TreePath) -> bool {
     let depth = path.len();
     match line.letter {

@@ -1,4 +1,4 @@
-//! What stands at paths, from a text and as a text: a line for each object.
+//! The objects at paths, from a text and as a text: a line for each object.
 use pv_acl::{print_acl, read_acl};
 use pv_explain::Standing;
 use pv_path::{TreePath, child, is_name, print_path};

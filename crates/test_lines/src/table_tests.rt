@@ -1,5 +1,5 @@
-//! Rows of tables: lines of a configuration with the numbers of those that are kept, in the orders of the phases, and with
-//! what is said of the others.
+//! Rows of tables: lines of a configuration with the numbers of those that are kept, in the orders of the phases. The
+//! messages on the others follow.
 use crate::lines::{add_messages, lines_of};
 use pv_lines::Line;
 use pv_path::{TreePath, parse_path};
@@ -60,8 +60,8 @@ fn filtered(
     )?)
 }
 
-/// What a run does with lines: the numbers of those that are carried out in the create phase, then in the remove phase,
-/// then what is said of lines that are dropped.
+/// What a run does with lines: the numbers of those of the create phase, then of the remove phase. Then come the
+/// messages on lines that are dropped.
 fn plan(
     alloc: Global,
     boot: bool,

@@ -17,7 +17,7 @@ pub(crate) fn at<'a>(things: &'a [Thing], names: &[Name]) -> Option<&'a Node> {
     }
 }
 
-/// Whether what stands at a place above the last one can be passed: nothing, or a directory.
+/// Whether a component above the last one can be passed: it is absent or a directory.
 fn is_passed(here: Option<&Node>) -> bool {
     match here {
         Some(node) => node.kind == Kind::Directory,
@@ -32,8 +32,8 @@ fn owner_of(here: Option<&Node>, made: u32) -> u32 {
     }
 }
 
-/// Whether one place of a path is refused: it is above the last one and no directory, or it lies in a directory of a user
-/// other than root and belongs to another. `made` is the owner that it counts as where nothing stands there.
+/// Whether one component of a path is refused. It is above the last one and not a directory, or it lies in a directory
+/// of a user other than root and belongs to another. `made` is the owner that it counts as if it is absent.
 fn is_refused_at(things: &[Thing], up: &[Name], names: &[Name], last: bool, made: u32) -> bool {
     let here = at(things, names);
     let owner = owner_of(at(things, up), 0);

@@ -33,7 +33,7 @@ fn broken(alloc: Global, row: &Row<'_>) -> Result<Option<Broken>, AllocError> {
     })
 }
 
-/// What is told of the runs of a row.
+/// The answers of the runs of a row.
 fn answer(alloc: Global, row: &Row<'_>, input: &[u8]) -> Result<String, AllocError> {
     match row.call {
         "stops" => stops(alloc, row.words, input),

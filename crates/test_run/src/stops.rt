@@ -1,4 +1,4 @@
-//! Runs that are stopped after each number of their steps, and what a whole run then leaves.
+//! Runs that are stopped after each number of their steps, and what a complete run then leaves.
 use crate::runs::{run, stopped};
 use std::alloc::{AllocError, Global};
 
@@ -26,15 +26,20 @@ fn objects(alloc: Global, output: &[u8]) -> Result<Vec<u8>, AllocError> {
     Ok(text)
 }
 
-/// Whether a whole run over this output leaves these objects.
-fn is_mended(alloc: Global, words: &str, half: &[u8], wanted: &[u8]) -> Result<bool, AllocError> {
+/// Whether a complete run over this output leaves these objects.
+fn is_recovered(
+    alloc: Global,
+    words: &str,
+    half: &[u8],
+    wanted: &[u8],
+) -> Result<bool, AllocError> {
     let (whole, _) = run(alloc, words, half)?;
     let left = objects(alloc, &whole)?;
     Ok(left.as_slice() == wanted)
 }
 
-/// After how many numbers of steps a run is stopped, and after which of them a whole run leaves other objects than one whole
-/// run.
+/// After how many numbers of steps a run is stopped. It also tells after which of them an object is gone that a
+/// complete run leaves, or one is there that was not.
 pub(crate) fn stops(alloc: Global, words: &str, input: &[u8]) -> Result<String, AllocError> {
     let (whole, _) = run(alloc, words, input)?;
     let wanted = objects(alloc, &whole)?;
@@ -42,14 +47,14 @@ pub(crate) fn stops(alloc: Global, words: &str, input: &[u8]) -> Result<String, 
     for steps in 0..MOST {
         match stopped(alloc, words, input, steps)? {
             None => return format!(in alloc; "{steps} steps{others}"),
-            Some(half) if is_mended(alloc, words, &half, &wanted)? => {}
+            Some(half) if is_recovered(alloc, words, &half, &wanted)? => {}
             Some(_) => others.push_str(&format!(in alloc; ", other objects after {steps}")?)?,
         }
     }
     format!(in alloc; "too many steps")
 }
 
-/// How many steps a whole run over an output takes, if it then writes what is wanted.
+/// How many steps a complete run over an output takes, if it then writes what is wanted.
 fn steps_of(alloc: Global, words: &str, half: &[u8], wanted: &[u8]) -> Result<String, AllocError> {
     for steps in 0..MOST {
         let limited = format!(in alloc; "{words} --stop-after={steps}")?;
@@ -64,7 +69,7 @@ fn steps_of(alloc: Global, words: &str, half: &[u8], wanted: &[u8]) -> Result<St
     format!(in alloc; "too many ")
 }
 
-/// How many steps a whole run takes after each number of steps: what is staged goes first, one step for each object.
+/// How many steps a complete run takes after each number of steps: what is staged goes first, one step for each object.
 pub(crate) fn reruns(
     alloc: Global,
     words: &str,
@@ -93,8 +98,8 @@ fn holds(text: &[u8], lines: &[u8]) -> bool {
         .all(|line| has_line(text, line))
 }
 
-/// After how many numbers of steps a run is stopped, and after which of them an object is gone that a whole run leaves, or one
-/// is there that was not.
+/// After how many numbers of steps a run is stopped. It also tells after which of them an object is gone that a
+/// complete run leaves, or one is there that was not.
 pub(crate) fn takings(alloc: Global, words: &str, input: &[u8]) -> Result<String, AllocError> {
     let (whole, _) = run(alloc, words, input)?;
     let (old, left) = (objects(alloc, input)?, objects(alloc, &whole)?);

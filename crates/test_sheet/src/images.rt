@@ -21,8 +21,8 @@ pub(crate) fn text_of(alloc: Global, lines: &[&str]) -> Result<String, AllocErro
     spelled(alloc, &text)
 }
 
-/// The timestamps that a word stands for: those of long ago, of an object that the run made, of a
-/// directory that gained or lost a child, of an object with another owner, mode or ACL.
+/// The timestamps that a word stands for. They are those of long ago, of an object that the run made or changed, or of
+/// a directory that gained or lost a child.
 fn stamps(word: &str) -> &str {
     match word {
         "-" => "0,0,0,0",
@@ -60,7 +60,7 @@ fn completed<'a>(fields: &mut Vec<&'a str>, content: &'a str) -> Result<(), Allo
 }
 
 /// The line of an object, `KIND PATH MODE UID GID STAMPS` and then nothing, `ACL PAYLOAD`, `ACL ATTRS LETTERS PAYLOAD` or
-/// `=CONTENT`. What has another form is no line of an image.
+/// `=CONTENT`. What has another form is not a line of an image.
 fn object_line(alloc: Global, object: &str) -> Result<String, AllocError> {
     let (front, content) = parts(alloc, object)?;
     let mut fields: Vec<&str> = front.split(' ').collect(alloc)?;

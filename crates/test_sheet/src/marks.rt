@@ -32,8 +32,8 @@ fn add_piece(alloc: Global, bytes: &mut Vec<u8>, piece: &str) -> Result<(), Allo
     bytes.extend_from_slice(rest.as_bytes())
 }
 
-/// The bytes that a text spells: `⟨hh⟩` stands for a byte by its two hexadecimal digits, `⟨hh×n⟩` for so many of them, `∅` for
-/// nothing, and the signs of lines for what they are there.
+/// The bytes that a text spells. `⟨hh⟩` stands for a byte by its two hexadecimal digits, `⟨hh×n⟩` for so many of them,
+/// and `∅` for nothing. The signs of lines are as they are there.
 pub fn bytes_of(alloc: Global, text: &str) -> Result<Vec<u8>, AllocError> {
     let text = text.replace(alloc, '∅', "")?;
     let text = spelled(alloc, &text)?;

@@ -5,7 +5,7 @@ use std::alloc::{AllocError, Global};
 
 /// What carries rows out.
 pub trait Calls {
-    /// What a row gives: what is said, the output, and behind `= ` what is told at its end.
+    /// What a row gives: its messages, the output, and after `= ` the end.
     fn found(&self, alloc: Global, sheet: &Sheet<'_>, row: &Row<'_>) -> Result<Vec<u8>, AllocError>;
 }
 

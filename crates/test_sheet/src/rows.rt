@@ -2,7 +2,7 @@
 use indexmap::IndexMap;
 use std::alloc::{AllocError, Global};
 
-/// A row: what is called, with which words, its lines, each behind its mark, and what is told at its end.
+/// A row: what is called, with which words, its lines, each after its mark, and the end.
 #[derive(Drop)]
 pub struct Row<'a> {
     pub call: &'a str,
@@ -45,7 +45,7 @@ impl<'a> Sheet<'a> {
         Ok(sheet)
     }
 
-    /// Adds a block: a list where it begins with `list`, rows of one line each where it begins with `each`, else a row;
+    /// Adds a block: a list where it begins with `list`, rows of one line each where it begins with `each`, otherwise a row;
     /// comments alone are nothing.
     fn add(&mut self, alloc: Global, block: &'a str) -> Result<(), AllocError> {
         let mut lines = block.lines().filter(|line| !line.starts_with('#'));
@@ -85,7 +85,7 @@ impl<'a> Sheet<'a> {
         Ok(())
     }
 
-    /// Adds a row for each line, of words, ` → ` and what is told at its end.
+    /// Adds a row for each line, of words, ` → ` and the end.
     fn add_each(
         &mut self,
         alloc: Global,

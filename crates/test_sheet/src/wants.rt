@@ -4,7 +4,7 @@ use crate::marks::bytes_of;
 use crate::rows::{Row, Sheet};
 use std::alloc::{AllocError, Global};
 
-/// The text behind a doubled mark, or the image of the objects behind the mark, or no text where there are neither.
+/// The text behind a doubled mark, or the image of the objects behind the mark, or no text if there are neither.
 fn text(
     alloc: Global,
     sheet: &Sheet<'_>,
@@ -29,12 +29,12 @@ pub fn input(alloc: Global, sheet: &Sheet<'_>, row: &Row<'_>) -> Result<String, 
     text(alloc, sheet, row, "<< ", "< ")
 }
 
-/// The output that a row wants but for what is said: the text behind `>>`, or the image of the objects behind `>`.
+/// The output that a row wants, without messages: the text after `>>`, or the image of the objects after `>`.
 pub fn output(alloc: Global, sheet: &Sheet<'_>, row: &Row<'_>) -> Result<String, AllocError> {
     text(alloc, sheet, row, ">> ", "> ")
 }
 
-/// What is said and the output, and behind `= ` what is told at its end.
+/// The messages and the output, and after `= ` the end.
 pub fn ended(output: Vec<u8>, end: &[u8]) -> Result<Vec<u8>, AllocError> {
     let mut ended = output;
     ended.extend_from_slice(b"= ")?;
@@ -51,7 +51,7 @@ fn new_messages(alloc: Global, row: &Row<'_>) -> Result<String, AllocError> {
     Ok(text)
 }
 
-/// What a row wants: what is said, the output, and behind `= ` what is told at its end.
+/// What a row wants: its messages, the output, and after `= ` the end.
 pub(crate) fn wanted(
     alloc: Global,
     sheet: &Sheet<'_>,

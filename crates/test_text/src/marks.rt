@@ -67,7 +67,7 @@ pub(crate) fn named(alloc: Global, name: &[u8], printed: &str) -> Result<Vec<u8>
     Ok(answer_to)
 }
 
-/// What is told of words that a call can't read.
+/// The answer to words that a call cannot read.
 pub(crate) fn unread(alloc: Global) -> Result<Vec<u8>, AllocError> {
     new_messages(alloc, "unread words")
 }

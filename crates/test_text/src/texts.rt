@@ -16,7 +16,7 @@ use crate::marks::Arguments;
 use std::alloc::{AllocError, Global};
 use test_sheet::{Calls, Row, Sheet, ended, input};
 
-/// What a call of a subject answers for arguments, or nothing where there is no such subject.
+/// What a call of a subject answers for arguments, or nothing if there is no such subject.
 fn argued(
     alloc: Global,
     subject: &str,
@@ -34,7 +34,7 @@ fn argued(
     }))
 }
 
-/// What a call of a subject answers for words, or nothing where there is no such subject.
+/// What a call of a subject answers for words, or nothing if there is no such subject.
 fn answer_to(
     alloc: Global,
     subject: &str,
@@ -50,8 +50,8 @@ fn answer_to(
     }))
 }
 
-/// What carries out single calls. The name of a row's call is that of its subject, `-`, and its own. What is told stands at
-/// the end, and before it the text of the account files where users are planned.
+/// What carries out single calls. The name of a row's call is that of its subject, `-`, and its own. The answer is at
+/// the end, and before it the text of the account files if users are planned.
 pub(crate) struct Texts;
 
 impl Calls for Texts {

@@ -20,7 +20,7 @@ const LINES: &str = "d /data/g6/d0 0700 0 0\n\
     Z /data/g5 ~0755\n\
     f+ /data/g7/e11 - - - - more\n";
 
-/// Paths of the tree of the seed 1 and 11 lines, with the kind and the bytes of what stands there.
+/// Paths of the tree of the seed 1 and 11 lines, with the kind and the bytes of the object there.
 const NODES: &[(&str, Kind, &str)] = &[
     ("/", Kind::Directory, ""),
     ("/etc", Kind::Directory, ""),

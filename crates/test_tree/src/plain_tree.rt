@@ -168,7 +168,7 @@ fn take_out(rt: &impl Abort, entries: &mut Vec<(TreePath, Object)>, path: &TreeP
     let _taken = entries.remove(at);
 }
 
-/// Where a path lies after a rename, or nothing where what stands there is replaced.
+/// Where a path lies after a rename, or nothing if the object there is replaced.
 fn path_after(
     rt: &impl Abort,
     alloc: Global,
@@ -185,7 +185,7 @@ fn path_after(
     Some(path)
 }
 
-/// Moves what stands at and below a path.
+/// Renames the object at a path, with all below it.
 fn rename(
     rt: &impl Abort,
     alloc: Global,

@@ -251,7 +251,7 @@ fn is_acl(acl: &Acl) -> bool
     }
 }
 
-/// Whether an ACL may stand on what stands at a path.
+/// Whether the object at a path may have an ACL.
 fn takes_acl<T: Tree>(tree: &T, path: &TreePath, acl: &Acl) -> bool
     ensures { IsTrue result → TakesAcl (places (T.state tree.now)) path.now acl.now }
 {
@@ -261,7 +261,7 @@ fn takes_acl<T: Tree>(tree: &T, path: &TreePath, acl: &Acl) -> bool
     }
 }
 
-/// Whether what stands at a path may be put in the place of what stands at another.
+/// Whether the object at a path may be renamed to another path.
 fn yields<T: Tree>(rt: &impl Abort, alloc: Global, tree: &T, from: &TreePath, to: &TreePath) -> bool
     ensures { IsTrue result → Yields (places (T.state tree.now)) from.now to.now }
 {

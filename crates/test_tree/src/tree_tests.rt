@@ -35,7 +35,7 @@ impl<'a> Probe for Letters<'a> {
     }
 }
 
-/// The place of a name among others, with so many questions.
+/// The index of a name among others, with so many queries.
 fn place_in(names: &[u8], sought: u8, left: u32) -> Option<usize>
     requires rising { IsRising (map (λ n. nat_cmp n sought) names.now) }
     requires enough { length names.now < 2 ^ left }

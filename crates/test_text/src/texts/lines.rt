@@ -165,7 +165,7 @@ fn add_named(text: &mut Vec<u8>, alloc: Global, line: &Line) -> Result<(), Alloc
     }
 }
 
-/// Adds a mode, where there is one.
+/// Adds a mode, if there is one.
 fn add_mode(text: &mut Vec<u8>, alloc: Global, mode: Option<LineMode>) -> Result<(), AllocError> {
     match mode {
         Some(mode) => {
@@ -179,7 +179,7 @@ fn add_mode(text: &mut Vec<u8>, alloc: Global, mode: Option<LineMode>) -> Result
     }
 }
 
-/// Adds a user or a group, where there is one.
+/// Adds a user or a group, if there is one.
 fn add_owner(
     text: &mut Vec<u8>,
     alloc: Global,
@@ -195,7 +195,7 @@ fn add_owner(
     }
 }
 
-/// Adds the age of a line, where there is one.
+/// Adds the age of a line, if there is one.
 fn add_age(text: &mut Vec<u8>, alloc: Global, line: &Line) -> Result<(), AllocError> {
     match line.age {
         Some(age) => {

@@ -147,7 +147,7 @@ fn paths(alloc: Global, texts: &[Vec<u8>]) -> Result<PathList, AllocError> {
     Ok(list)
 }
 
-/// Pairs of heads, each as the numbers of the two and the path that is told of them.
+/// Pairs of heads, each as the two numbers and the path of the pair.
 fn list_answer(alloc: Global, pairs: &PairList) -> Result<Vec<u8>, AllocError> {
     let mut answer_to = Vec::from_slice(alloc, b"pairs")?;
     for pair in pairs.as_slice() {
@@ -158,7 +158,7 @@ fn list_answer(alloc: Global, pairs: &PairList) -> Result<Vec<u8>, AllocError> {
     Ok(answer_to)
 }
 
-/// The pairs of heads that are told, where the second of two related heads is told of them.
+/// The pairs of heads that are found if the path of two related heads is the second of them.
 fn pairs_answer(alloc: Global, texts: &[Vec<u8>]) -> Result<Vec<u8>, AllocError> {
     let heads = paths(alloc, texts)?;
     if heads.len() > 100 {
@@ -219,8 +219,8 @@ fn pairs_in(alloc: Global, texts: &[Vec<u8>]) -> Result<Vec<Pair>, AllocError> {
     Ok(pairs)
 }
 
-/// The pairs of heads that are told where the paths of some are given: behind the heads a `;`, and then the numbers and
-/// the path of each pair.
+/// The pairs of heads that are found if the paths of some are given. After the heads comes a `;`, and then the numbers
+/// and the path of each pair.
 fn given_answer(alloc: Global, texts: &[Vec<u8>]) -> Result<Vec<u8>, AllocError> {
     let end = texts
         .iter()
@@ -367,8 +367,8 @@ fn is_first(
     }
 }
 
-/// For how many pairs of texts, each with one from the other end but for the last ones, the first shared name is the first of
-/// all names that both match.
+/// For how many pairs of texts the first shared name is the first of all names that both match. Each text is paired
+/// with one from the other end, without the last ones.
 fn pairs_first(
     alloc: Global,
     names: &[TreePath],

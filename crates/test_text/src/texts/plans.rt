@@ -59,8 +59,8 @@ fn plan_answer(
     }
 }
 
-/// What lines plan on day 11 for the account files of a text, each followed by a line of a dash and the last one there only
-/// where it has a line, where no path of a line has an object.
+/// What lines plan on day 11 for the account files of a text, if no path of a line has an object. Each file is followed
+/// by a line of a dash, the last one only if it has a line.
 pub(crate) fn planned(alloc: Global, lines: &[&str], input: &str) -> Result<Vec<u8>, AllocError> {
     let requests = requests_of(alloc, lines)?;
     let files: Vec<&str> = input.split("-\n").collect(alloc)?;

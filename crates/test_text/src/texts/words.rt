@@ -76,7 +76,7 @@ fn add_flags(text: &mut Vec<u8>, options: &Options) -> Result<(), AllocError> {
     Ok(())
 }
 
-/// Adds a name and a number, where there is one.
+/// Adds a name and a number, if there is one.
 fn add_number(
     text: &mut Vec<u8>,
     alloc: Global,
@@ -91,7 +91,7 @@ fn add_number(
     }
 }
 
-/// Adds a name and a path, where there is one.
+/// Adds a name and a path, if there is one.
 fn add_path(
     text: &mut Vec<u8>,
     alloc: Global,
