@@ -19,10 +19,10 @@ from collections import defaultdict
 from dataclasses import dataclass, field
 from pathlib import Path
 
-from check_clauses import call_names, pairs_of
+from check_clauses import (ALL_CALLS, CALLS_OF_THEOREM, HEADING, ONE_CLAUSE, PROMISES, call_names, calls_of_theorem,
+                           pairs_of, parts_of_theorem, without_records)
 
 PAGE = "docs/BELIEVE.md"
-PROMISES = "docs/PROMISES.md"
 BEGINNING = "<!-- What follows is written by tools/check_beliefs.py --write. -->"
 
 FUNCTION = re.compile(r"^\s*(?:pub(?:\([a-z]+\))? )?(?:const )?(?:unsafe )?fn (\w+)(\(\)$)?")
@@ -34,26 +34,23 @@ IMPORT_LINES = re.compile(r"(use Rattle[\w.]+\.\{)([^}]*\n[^}]*)\}")
 DEFINITION = re.compile(r"^(?:(?:abbrev|unfoldable|pub|record|data) )*([^\W\d][\w'-]*)")
 WORD = re.compile(r"(?<![\w'.-])([^\W\d][\w'-]*)(?:\.([^\W\d][\w'-]*))?")
 TOKEN = re.compile(r"`([^`]+)`")
-HEADING = re.compile(r"^#{2,4} (.+)")
-CALLS_OF_THEOREM = re.compile(r"^\*Calls? and clauses?:?\*:?\s*(.*)")
-ONE_CLAUSE = ("its one clause", "the one `ensures`")
-ALL_CALLS = re.compile(r"each call|every call|the readers")
 
 HEAD = """\
 # What to believe
 
-The prover checks that the code meets its contracts. It cannot check that the contracts say what you want. The contracts are written with definitions, and these you have to read and believe. This page says for each promise which definitions they are.
+The prover checks that the code meets its contracts. It cannot check that the contracts say what you want. The contracts are written with definitions, and these you have to read and believe. This page says for each theorem which definitions they are.
 
-Each promise of [PROMISES.md](PROMISES.md) has a section below, with its calls and clauses. It lists the files of definitions that the clauses reach: those that a clause or a premise (`requires`) of its call names, those that these are defined by, and so on. `pv_path: Names 12` means 12 lines of `crates/pv_path/specs/Names.antt`. Comments and blank lines are not counted. Definitions of the same file that the clauses do not reach are not counted either.
+Each theorem of [PROMISES.md](PROMISES.md) has a section below, with its calls and clauses. The theorem that every call ends has none, since it needs no definition. For one of the five promises for users, look up the theorems that it names. A section lists the definitions that are named by a clause of the theorem or by the `requires` of its call, and all definitions on which these depend. `pv_path: Names 12` means 12 lines of `crates/pv_path/specs/Names.antt`. Only the definitions that are reached are counted, without comments and blank lines.
 
-How to read the definitions behind one promise:
+How to read the definitions behind one theorem:
 
 1. Read the clauses first. They stand in the source of the call, below the line with `fn`.
 2. Read the files in the order of the list. No file uses a definition of a file that comes later.
-3. Skip what you have read for another promise. The first table shows how much each promise needs. Where several clauses say a promise, the one of a single call needs much less than the one of the whole run.
-4. Look up a Rust type under "Types" where a definition names it. Its declaration in `crates/NAME/src` is ordinary Rust, and `impl Model` beside it says which of its fields the clauses see.
+3. Skip what you have read for another theorem. The table below shows how many lines all clauses of one theorem need together, and how many all theorems need.
+4. You may read one clause alone: that of the call that you use. In a section each clause has its own number of lines. A clause of `run_on_tree` or `provision` speaks of all commands. So it also reaches the definitions of accounts where the theorem is about creating. The clause of a single call, or a law, needs much less.
+5. Look up a Rust type under "Types" if a definition names it. Its declaration in `crates/NAME/src` is ordinary Rust, and `impl Model` beside it says which of its fields the clauses see.
 
-Definitions of the standard library are not listed. They come with the kit that README names, and so does the prover. Nothing in `crates/*/proofs` has to be read or believed, because the prover checks it.
+The kit explains the language of clauses and definitions in `rattle/CONTRACTS.md` and `rattle/ANTT.md`. Without the kit you can read only the comments above the definitions, and no prover checks comments. Definitions of the standard library are not listed. They come with the kit that README names, and so does the prover. Nothing in `crates/*/proofs` has to be read or believed, because the prover checks it.
 
 The lists are computed from the imports, and the gate fails where this page differs from the code (`python3 tools/check_beliefs.py`). After a change of clauses or definitions run `python3 tools/check_beliefs.py --write`.
 """
@@ -75,7 +72,7 @@ class Source:
         if found := ALIAS.match(line):
             self.aliases[found[2]] = found[1]
             return True
-        return line.lstrip().startswith(("use Rattle.", "ghost use Rattle."))
+        return line.lstrip().startswith(("use Rattle.", "ghost use Rattle.", "use Prim."))
 
     def meant(self, text: str) -> set[tuple[str, str]]:
         """The names of other files that a text uses, each with its file."""
@@ -195,10 +192,11 @@ class Code:
                     function.premises.append(body)
 
     def calls(self, call: str) -> list[Function]:
-        """The functions that a document calls so."""
+        """The functions that a document calls so; a crate may lend one of another, if there is one of the name."""
         *before, name = call.split("::")
-        return [it for it in self.functions.get(name, ())
-                if all(word in (it.crate, *it.owners) for word in before)]
+        named = self.functions.get(name, [])
+        found = [it for it in named if all(word in (it.crate, *it.owners) for word in before)]
+        return found or (named if len(named) == 1 and before and before[0] in self.crates else [])
 
     # What is reached
 
@@ -309,13 +307,8 @@ def promises_of(code: Code, text: str) -> list[Promise]:
         header = None
         if it := HEADING.match(line):
             heading = it[1]
-        elif it := CALLS_OF_THEOREM.match(line):
-            rest = [it[1]]
-            for more in lines[number + 1:]:
-                if not more.strip() or more.startswith(("*", "#", "|")):
-                    break
-                rest.append(more.strip())
-            found.append(theorem(code, heading, " ".join(rest)))
+        elif CALLS_OF_THEOREM.match(line):
+            found.append(theorem(code, heading, calls_of_theorem(lines, number)))
     return found
 
 
@@ -325,24 +318,21 @@ def row(code: Code, header: list[str], cells: list[str]) -> Promise:
     titles = re.findall(r"\*\*([^*]+)\*\*", cells[0])
     promise = Promise(", ".join(titles) or cells[0])
     for text in clauses:
-        for names, part in pairs_of(call, call_names(call), without_parts(text)):
+        for names, part in pairs_of(call, call_names(call), without_records(text)):
             promise.add(clauses_of(code, names, part, ALL_CALLS.search(call) is not None))
     return promise
 
 
 def theorem(code: Code, heading: str, text: str) -> Promise:
-    """A theorem; a part between semicolons without a call of its own is of the calls before it."""
+    """A theorem, part by part: the clauses of calls, or all those of laws that are named without one."""
     promise = Promise(heading)
-    calls: list[str] = []
-    for part in without_parts(text).split(";"):
-        calls = [it for it in call_names(part) if "::" in it and code.calls(it)] or calls
-        promise.add(clauses_of(code, calls, part, False))
+    for calls, text_of_clauses in parts_of_theorem(text):
+        clauses = without_records(text_of_clauses)
+        if TOKEN.search(clauses) or clauses in ONE_CLAUSE:
+            promise.add(clauses_of(code, calls, clauses, ALL_CALLS.search(clauses) is not None))
+        else:
+            promise.add([(it, None) for call in calls for it in code.calls(call) if it.is_law])
     return promise
-
-
-def without_parts(text: str) -> str:
-    """A text without what stands in parentheses: the parts of a record, which say what to look at in a clause."""
-    return re.sub(r"\([^()]*\)", "", text)
 
 
 def clauses_of(code: Code, calls: list[str], text: str, anywhere: bool) -> list[tuple[Function, str | None]]:
@@ -364,7 +354,7 @@ def clauses_of(code: Code, calls: list[str], text: str, anywhere: bool) -> list[
 
 def sections(code: Code, promises: list[Promise]) -> str:
     """The table of all promises, and a section for each that reaches a definition."""
-    rows = ["| promise | lines | files | crates |", "|---|---|---|---|"]
+    rows = ["| theorem | lines | files | crates |", "|---|---|---|---|"]
     parts: list[str] = []
     for promise in promises:
         reach = code.reach(promise.functions)
@@ -373,6 +363,8 @@ def sections(code: Code, promises: list[Promise]) -> str:
             continue
         rows.append(f"| {promise.title} | {sum(reach.lines.values()):,} | {len(reach.lines)} | {len(order)} |")
         parts.append(section(code, promise, reach, order))
+    everything = code.reach([function for promise in promises for function in promise.functions])
+    rows.append(f"| all together | {sum(everything.lines.values()):,} | {len(everything.lines)} | {len(code.order(everything))} |")
     return "\n".join([*rows, "", *parts])
 
 
@@ -384,12 +376,12 @@ def section(code: Code, promise: Promise, reach: Reach, order: list[tuple[str, l
     clauses = ", ".join(f"{name} {count:,}" for name, count in sorted(named.items()))
     lines = [f"## {promise.title}", "", f"Clauses, with the lines that each reaches by itself: {clauses}.", ""]
     for crate, files in order:
-        lines.append(f"- {crate}: " + ", ".join(f"{file.split('.')[-1]} {reach.lines[file]}" for file in files))
+        lines.append(f"- {crate}: " + ", ".join(f"`{file.split('.')[-1]}` {reach.lines[file]}" for file in files))
     by_crate: dict[str, list[str]] = defaultdict(list)
     for crate, name in sorted(reach.types):
         by_crate[crate].append(name)
     if by_crate:
-        types = "; ".join(f"{crate}: {', '.join(names)}" for crate, names in by_crate.items())
+        types = "; ".join(f"{crate}: {', '.join(f'`{name}`' for name in names)}" for crate, names in by_crate.items())
         lines += ["", f"Types: {types}."]
     return "\n".join([*lines, ""])
 

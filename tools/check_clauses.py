@@ -1,13 +1,20 @@
 #!/usr/bin/env python3
 """Checks that each clause that a document names stands on the call that it names.
 
-Read are README.md, docs/PROMISES.md and crates/*/README.md: tables with a
-column `call` and one of `clause`, `clauses` or `what .. say`, and items of
-lists that begin with calls. In a column of clauses each name must be a clause
-(`ensures NAME {`) of one of the row's calls, and each call must have one of
-them; a name after a record (`IsStopped`: `again`) must be a part of it; a law
-is a function of its name. In a text, `NAME`: at the beginning of a part is a
-clause. What is no such name is said by no one and is not checked.
+Read are README.md, docs/PROMISES.md and crates/*/README.md: theorems, tables
+with a column `call` and one of `clause`, `clauses` or `what .. say`, and items
+of lists that begin with calls. In a column of clauses each name must be a
+clause (`ensures NAME {`) of one of the row's calls, and each call must have one
+of them; a name after a record (`IsStopped`: `again`) must be a part of it; a
+law is a function of its name. In a text, `NAME`: at the beginning of a part is
+a clause. What is no such name is said by no one and is not checked.
+
+A theorem is a heading `### Theorem N: ..` and a paragraph below it that begins
+`*Call and clause:*`. Its parts stand between semicolons, each with calls
+(`crate::call`), if it has others than the part before, and their clauses. A
+call without a clause must be a law. Theorems are numbered from 1 on, and
+`Theorem N` in any document must be one of docs/PROMISES.md. A link from a
+document to a heading, of this or another document, must lead to one.
 
 A call or a law that is named so must be public: a `pub fn` that its crate's
 lib.rt reaches by `pub use` or `pub mod`, or one of a type or a trait that it
@@ -22,7 +29,7 @@ import sys
 from dataclasses import dataclass, field
 from pathlib import Path
 
-FUNCTION = re.compile(r"^(\s*)(pub(?:\([a-z]+\))? )?(?:const )?(?:unsafe )?fn (\w+)")
+FUNCTION = re.compile(r"^(\s*)(pub(?:\([a-z]+\))? )?(?:const )?(?:unsafe )?fn (\w+)(\(\)$)?")
 OWNER = re.compile(r"^(?:pub(?:\([a-z]+\))? )?(impl|trait)\b(.*)")
 USE = re.compile(r"^pub use ([\w:]+?)(?:::(\w+|\*)(?: as \w+)?|::\{([^}]*)\});", re.MULTILINE)
 MODULE = re.compile(r"^pub mod (\w+);", re.MULTILINE)
@@ -36,16 +43,23 @@ SAME = "the same"
 ONE_CLAUSE = ("its one clause", "the one `ensures`")
 LAWS = re.compile(r"\b(?:a law|laws)\b")
 ALL_CALLS = re.compile(r"each call|every call|the readers")
+HEADING = re.compile(r"^#{1,4} (.+)")
+THEOREM = re.compile(r"^### Theorem (\d+)\b")
+CALLS_OF_THEOREM = re.compile(r"^\*Calls? and clauses?:?\*:?\s*(.*)")
+PROMISES = "docs/PROMISES.md"
+LINK = re.compile(r"\]\(([\w./-]*)#([^)]*)\)")
+NUMBERED = re.compile(r"\bTheorem (\d+)\b")
 
 
 @dataclass
 class Function:
-    """A function of a crate, with the names of its clauses; None for one without a name."""
+    """A function of a crate, with the names of its clauses, None for one without a name; a law takes no arguments."""
 
     crate: str
     owners: frozenset[str]
     name: str
     public: bool
+    is_law: bool = False
     homes: set[str] = field(default_factory=set)
     clauses: list[str | None] = field(default_factory=list)
 
@@ -137,7 +151,7 @@ class Code:
             if found := FUNCTION.match(line):
                 mark = found[2] or owner[1]
                 public = surface.program or mark == "pub " and surface.reaches(path, owner[0] or found[3])
-                function = Function(crate, owners, found[3], public, {crate})
+                function = Function(crate, owners, found[3], public, found[4] is not None, {crate})
                 self.functions.setdefault(found[3], []).append(function)
             for found in ENSURES.finditer(line):
                 if function is not None and not line.lstrip().startswith("//"):
@@ -205,11 +219,15 @@ class Document:
     def check(self) -> None:
         header: list[str] | None = None
         calls: list[str] = []
+        theorems = Theorems(self)
         for number, line in enumerate(self.lines, 1):
+            theorems.read(number, line)
             if not line.startswith("|"):
                 header = None
                 if line.startswith("- "):
                     self._check_item(number, line)
+                if CALLS_OF_THEOREM.match(line):
+                    self._check_theorem(number, calls_of_theorem(self.lines, number - 1))
                 self._check_names(number, line)
                 continue
             self._check_names(number, line)
@@ -218,6 +236,7 @@ class Document:
                 header, calls = cells, []
             elif not set(line) <= set("|- :") and "call" in header:
                 calls = self._check_row(number, header, cells, calls)
+        theorems.end()
 
     def _check_names(self, number: int, line: str) -> None:
         """A name that means a private call alone is no promise."""
@@ -225,6 +244,27 @@ class Document:
             functions = self.code.calls(name, self.crate) if re.fullmatch(r"[\w:]+", name) else []
             if functions and not self.code.means_more(name):
                 self._public(number, name, functions)
+
+    # Theorems
+
+    def _check_theorem(self, number: int, text: str) -> None:
+        """The parts of a theorem; one of any call needs no call that it names."""
+        for calls, clauses in parts_of_theorem(text):
+            anywhere = ALL_CALLS.search(clauses) is not None
+            if not calls and not anywhere:
+                self.miss(number, f"no call in `{clauses.strip()}`")
+            if calls or TOKEN.search(clauses):
+                self._check_clauses(number, calls, clauses, False, anywhere)
+            if not TOKEN.search(without_records(clauses)) and clauses not in ONE_CLAUSE:
+                self._check_laws(number, calls)
+
+    def _check_laws(self, number: int, calls: list[str]) -> None:
+        """Calls that are named without a clause are laws, whose whole contract is meant."""
+        for call in calls:
+            functions = self.code.calls(call, None)
+            self.checked += len(functions)
+            if functions and not any(it.is_law for it in functions):
+                self.miss(number, f"no clause of `{call}`")
 
     # Rows
 
@@ -373,6 +413,83 @@ class Document:
         return rest
 
 
+class Theorems:
+    """The theorems of a document as it is read: their numbers, and that each names its calls and clauses."""
+
+    def __init__(self, document: Document) -> None:
+        self.document = document
+        self.number = 0
+        self.open: int | None = None
+
+    def read(self, at: int, line: str) -> None:
+        if HEADING.match(line):
+            self.end()
+        if found := THEOREM.match(line):
+            self.number += 1
+            if int(found[1]) != self.number:
+                self.document.miss(at, f"theorem {found[1]} is the one of number {self.number}")
+            self.open = at
+        elif CALLS_OF_THEOREM.match(line):
+            self.open = None
+
+    def end(self) -> None:
+        """A theorem ends, which must have named its calls and clauses."""
+        if self.open is not None:
+            self.document.miss(self.open, "a theorem without a call and a clause")
+        self.open = None
+
+
+def calls_of_theorem(lines: list[str], at: int) -> str:
+    """The text of the paragraph that begins at a line, which names calls and clauses of a theorem."""
+    found = CALLS_OF_THEOREM.match(lines[at])
+    text = [found[1]]
+    for line in lines[at + 1:]:
+        if not line.strip() or line.startswith(("*", "#", "|")):
+            break
+        text.append(line.strip())
+    return " ".join(text).rstrip(".")
+
+
+def parts_of_theorem(text: str) -> list[tuple[list[str], str]]:
+    """The parts between semicolons outside of parentheses: the calls, or those of the part before, and the clauses."""
+    parts = []
+    calls: list[str] = []
+    for part in re.split(r";(?![^(]*\))", text):
+        named = [it for it in call_names(part) if "::" in it]
+        calls = named or ([] if ALL_CALLS.search(part) else calls)
+        clauses = re.sub(r"`\w+(?:::\w+)+`(?:,| and)?", "", part)
+        parts.append((calls, clauses.strip(" ,")))
+    return parts
+
+
+def without_records(text: str) -> str:
+    """A text without what stands in parentheses: the parts of a record, which say what to look at in a clause."""
+    return re.sub(r"\([^()]*\)", "", text)
+
+
+def anchors_of(text: str) -> set[str]:
+    """The names by which pages link to the headings of a document: words in small letters with hyphens between."""
+    headings = [found[1] for found in map(HEADING.match, text.splitlines()) if found]
+    return {re.sub(r"[^\w\- ]", "", it.lower()).strip().replace(" ", "-") for it in headings}
+
+
+def lost_links(top: Path) -> list[Missing]:
+    """Links of all documents to a heading, and numbers of theorems, that are not there."""
+    found = []
+    promises = (top / PROMISES).read_text() if (top / PROMISES).exists() else ""
+    theorems = {it[1] for it in map(THEOREM.match, promises.splitlines()) if it}
+    for path in [*sorted(top.glob("*.md")), *sorted(top.glob("docs/*.md")), *sorted(top.glob("crates/*/README.md"))]:
+        for number, line in enumerate(path.read_text().splitlines(), 1):
+            for page, anchor in LINK.findall(line):
+                target = (path.parent / page).resolve() if page else path
+                if not target.exists() or anchor not in anchors_of(target.read_text()):
+                    found.append(Missing(f"{path.relative_to(top)}:{number}", f"no heading `{page}#{anchor}`"))
+            if theorems:
+                found += [Missing(f"{path.relative_to(top)}:{number}", f"no theorem {it}")
+                          for it in NUMBERED.findall(line) if it not in theorems]
+    return found
+
+
 def call_names(cell: str) -> list[str]:
     """The calls of a cell; a method that follows another is of the same type."""
     names = []
@@ -412,9 +529,9 @@ def tokens_of(text: str) -> list[tuple[str, str]]:
 def main(words: list[str]) -> int:
     top = Path(words[0] if words else Path(__file__).resolve().parent.parent).resolve()
     code = Code(top)
-    paths = [top / "README.md", top / "docs/PROMISES.md", *sorted(top.glob("crates/*/README.md"))]
+    paths = [top / "README.md", top / PROMISES, *sorted(top.glob("crates/*/README.md"))]
     checked = 0
-    missing: list[Missing] = []
+    missing: list[Missing] = lost_links(top)
     for path in paths:
         if path.exists():
             document = Document(code, top, path)

@@ -130,13 +130,13 @@ class Beliefs(ToolCase):
         page = self.page(ROWS)
         self.assertEqual(self.section(page, "one"), [
             "Clauses, with the lines that each reaches by itself: `top::go` (`ok`) 12.",
-            "- low: Words 5, First 2",
-            "- top: Ends 5",
-            "Types: low: Line."])
+            "- low: `Words` 5, `First` 2",
+            "- top: `Ends` 5",
+            "Types: low: `Line`."])
         self.assertEqual(self.section(page, "two")[0],
                          "Clauses, with the lines that each reaches by itself: `top::all_is_well` 12.")
         # The premise of the call is read too.
-        self.assertEqual(self.section(page, "three")[1:], ["- low: Words 5", "Types: low: Line."])
+        self.assertEqual(self.section(page, "three")[1:], ["- low: `Words` 5", "Types: low: `Line`."])
         self.assertNotIn("four", page)
         self.assertIn("| one | 12 | 3 | 2 |", page)
 
@@ -145,6 +145,17 @@ class Beliefs(ToolCase):
         self.assertEqual(self.section(page, "Theorem 1: it goes")[0],
                          "Clauses, with the lines that each reaches by itself: `top::all_is_well` 12, "
                          "`top::go` (`free`) 5, `top::go` (`ok`) 12.")
+
+    def test_laws_and_any_call_in_theorems(self):
+        page = self.page(THEOREMS.replace("`top::go`, `free`; a law, `all_is_well`;\nover bytes `top::go`, `ok`.",
+                                          "law `top::all_is_well`; each call, `free` (`First`: `at`; `ok`); every call."))
+        self.assertEqual(self.section(page, "Theorem 1: it goes")[0],
+                         "Clauses, with the lines that each reaches by itself: `top::all_is_well` 12, "
+                         "`top::go` (`free`) 5.")
+
+    def test_a_law_that_a_crate_lends(self):
+        page = self.page(THEOREMS.replace("`top::go`, `free`; a law, `all_is_well`;", "law `other::all_is_well`;"))
+        self.assertIn("`top::all_is_well` 12", self.section(page, "Theorem 1: it goes")[0])
 
     def test_the_page_is_checked(self):
         (self.room / "docs/PROMISES.md").write_text(ROWS)
@@ -194,4 +205,4 @@ class Beliefs(ToolCase):
             "//! A crate.\n", "//! A crate.\nghost use Rattle.low.specs.Alpha.{alpha};\n").replace(
             "result ≡ a", "result ≡ alpha"))
         page = self.page(ROWS)
-        self.assertIn("- low: Zulu 2, Alpha 2, Words 5", self.section(page, "three"))
+        self.assertIn("- low: `Zulu` 2, `Alpha` 2, `Words` 5", self.section(page, "three"))

@@ -158,6 +158,54 @@ class Clauses(ToolCase):
         more = {"tool/src/main.rt": "fn run()\n    ensures status { true }\n{}\n"}
         self.assertEqual(self.said("| a | `run` of crates/tool | `status` |", more=more), [])
 
+    def theorem(self, calls: str, number: int = 1) -> list[str]:
+        return [f"### Theorem {number}: it goes", "", f"*Call and clause:* {calls}", "", "*If* it does, *then* it does."]
+
+    def test_theorems(self):
+        for calls in ("`thing::go`, `ok`, `end`.", "`thing::go`, `ok` (`IsEnded`: `whole`; `IsEnded`: `part`); `end`.",
+                      "`thing::go`, `ok`; law `thing::all_is_well`.", "`thing::all_is_well`.", "`thing::go`, `ok`; every call, the check itself.",
+                      "each call that does steps, `kept`; `Store::put`, its one clause.",
+                      "`thing::go`,\n`ok`; a law, `all_is_well`."):
+            self.assertEqual(self.said(*self.theorem(calls), header=""), [], calls)
+        for calls, missing in (("`thing::go`, `said`.", "no clause `said` on `go`"),
+                               ("`thing::go`, `ok`; `fine`.", "no clause `fine` on `go`"),
+                               ("`thing::go`, `ok` (`IsEnded`: `half`).", "no part `half` of `IsEnded`"),
+                               ("`thing::go`, `ok`; `Store::put`.", "no clause of `Store::put`"),
+                               ("`thing::go`.", "no clause of `thing::go`"),
+                               ("`ok`.", "no call in ``ok``"),
+                               ("each call that does steps, `gone`.", "no clause `gone` on any call")):
+            self.assertIn(f"README.md:3: {missing}", self.said(*self.theorem(calls), header=""))
+
+    def test_private_calls_of_theorems(self):
+        more = {"other/src/lib.rt": "mod parts;\npub use parts::{Shelf, lend};\n", "other/src/parts.rt": PARTS}
+        self.assertEqual(self.said(*self.theorem("`other::lend`, `lent`."), header="", more=more), [])
+        self.assertIn("README.md:3: `other::take` is private",
+                      self.said(*self.theorem("`other::take`, `taken`."), header="", more=more))
+        self.assertIn("README.md:3: `other::nothing_is_lost` is private",
+                      self.said(*self.theorem("`other::nothing_is_lost`."), header="", more=more))
+
+    def test_theorems_are_numbered_and_say_their_clauses(self):
+        one = self.theorem("`thing::go`, `ok`.")
+        self.assertEqual(self.said(*one, *self.theorem("`thing::go`, `end`.", 2), header=""), [])
+        self.assertEqual(self.said(*one, *self.theorem("`thing::go`, `end`.", 3), header=""),
+                         ["README.md:6: theorem 3 is the one of number 2"])
+        self.assertEqual(self.said("### Theorem 1: it goes", "", "It does.", *self.theorem("`thing::go`, `ok`.", 2), header=""),
+                         ["README.md:1: a theorem without a call and a clause"])
+        self.assertEqual(self.said(*one, "### Theorem 2: it ends", header=""),
+                         ["README.md:6: a theorem without a call and a clause"])
+
+    def test_links_to_theorems(self):
+        (self.room / "docs").mkdir(exist_ok=True)
+        (self.room / "docs/PROMISES.md").write_text("\n".join(self.theorem("`thing::go`, `ok`.")) + "\n")
+        link = "It [goes](docs/PROMISES.md#theorem-1-it-goes), [too](docs/PROMISES.md#{}), `go`."
+        self.assertEqual(self.said("| a | `go` | `ok` |", "", link.format("theorem-1-it-goes")), [])
+        self.assertEqual(self.said("| a | `go` | `ok` |", "", link.format("theorem-2")),
+                         ["README.md:5: no heading `docs/PROMISES.md#theorem-2`"])
+        self.assertEqual(self.said("| a | `go` | `ok` |", "", "## How it `goes` (2)", "[see](#how-it-goes-2), [so](#so)."),
+                         ["README.md:6: no heading `#so`"])
+        self.assertEqual(self.said("| a | `go` | `ok` |", "", "See Theorem 1.", "See Theorem 2."),
+                         ["README.md:6: no theorem 2"])
+
     def test_texts(self):
         header = "| call | what its clauses say | of |"
         self.assertEqual(self.said("| `go` | `ok`: it goes; `end`: it ends | |", header=header), [])
