@@ -268,7 +268,7 @@ def run(words: list[str]) -> None:
         prog="image_to_tar", description="Makes a tar archive of a tree image on standard input.")
     parser.add_argument("tar", nargs="?", metavar="ROOT.tar",
                         help="the archive that the contents of large files come from")
-    parser.add_argument("--folder", metavar="FOLDER", help="the tree of this folder, in place of an image")
+    parser.add_argument("--folder", metavar="FOLDER", help="read the tree of this folder instead of an image")
     options = parser.parse_args(words)
     if options.folder is not None:
         if options.tar is not None:

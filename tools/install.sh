@@ -22,8 +22,8 @@ build() {
   [ ! -f "$program" ] || return 0
   command -v rt > /dev/null || return 0
   cat >&2 << 'END'
-install: the program is not built yet, so it is proved and built now. The first time this takes about 75 minutes of
-install: processor time, half an hour on four cores, with 8 GB of memory and 10 GB of disk. What is proved is kept.
+install: the program is not built yet, so it is proved and built now. The first time this takes about two hours of
+install: processor time, up to an hour on four cores, with 8 GB of memory and 10 GB of disk. What is proved is kept.
 install: If you have a program that is built already: tools/install.sh PROGRAM
 END
   (cd "$top/crates/provision" && rt run > /dev/null) || echo "install: rt run failed" >&2
@@ -72,7 +72,7 @@ install_pages() {
 
 # with_links FILE: a document whose links lead to what is installed; links to other files become plain text
 with_links() {
-  sed -E -e 's,\[([^]]*)\]\((\.\./)?(docs/)?(README|CONTRIBUTING|CHANGELOG|ARCHITECTURE|DECISIONS)\.md[^)]*\),\1,g' \
+  sed -E -e 's,\[([^]]*)\]\((\.\./)?(docs/)?(README|CONTRIBUTING|CHANGELOG|ARCHITECTURE|BELIEVE|DECISIONS)\.md[^)]*\),\1,g' \
     -e 's,\[([^]]*)\]\(\.\./crates/[^)]*\),\1,g' -e 's,\]\(\.\./examples/,](examples/,g' \
     -e 's,\]\(\.\./docs/,](../,g' -e 's,\]\(\.\./man/([a-z_-]+\.)([0-9])\),](../../man/man\2/\1\2),g' "$1"
 }

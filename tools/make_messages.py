@@ -12,7 +12,7 @@ from pathlib import Path
 sys.path.insert(0, str(Path(__file__).resolve().parent))
 
 from builder.catalogue import CATALOGUE  # noqa: E402
-from builder.catalogue_form import ANSWER, SEVERITIES, Message, Section  # noqa: E402
+from builder.catalogue_form import SEVERITIES, Message, Section  # noqa: E402
 
 DOCUMENT = Path(__file__).resolve().parent.parent / "docs/MESSAGES.md"
 
@@ -25,18 +25,21 @@ HEAD = """# Messages, and what to do about each
 with the line of the configuration file, a mark below the field, and what to do.
 
 In the messages FILE is a configuration file of the image and N the number of its line. PATH and PLACE are paths, and
-NAME is a user or a group, all [printed](FORMAT.md#the-whole-text). KIND is `directory`, `file`, `link`, `fifo`,
-`character device` or `block device`.
+NAME is a user or a group. Blanks and bytes that are not printable ASCII are escaped in all of them
+([how](FORMAT.md#the-whole-text)). KIND is `directory`, `file`, `link`, `fifo`, `character device` or `block device`.
 
 The messages come in this order:
 
 1. about configuration files, and about lines as they are read;
 2. about duplicates;
 3. about the lines of each phase, in the order in which they are carried out;
-4. whether the run was stopped. A removing phase that was stopped has no other messages.
+4. whether the run was stopped. A removing or purging phase gives its messages only at its end. If it was stopped, they
+   are missing.
 
-Each message below has its level, the [exit status](../man/provision.1) of `provision` if it changes that, and the
-sentence by which `provision-image` says it. FIELD is the marked part of the line.
+Below, each message comes with its level. If it changes the [exit status](USAGE.md#exit-statuses) of `provision`, the
+status comes next. Then comes its code in the [JSON](BUILDING.md#as-json) of `provision-image`, unless the message itself
+ends with the code. After this comes the sentence that `provision-image` shows, in which FIELD is the marked part of the
+line.
 
 """
 
@@ -48,8 +51,9 @@ def level_rows() -> str:
 
 
 def level(entry: Message) -> str:
-    """The level of a message with the status of the program, as it stands behind the message."""
-    return entry.severity + (f", status {entry.status}" if entry.status else "")
+    """The level of a message with the status of the program, and its code if its form does not end with that."""
+    named = entry.form.endswith(f" {entry.code}")
+    return entry.severity + (f", status {entry.status}" if entry.status else "") + ("" if named else f", `{entry.code}`")
 
 
 def shown(text: str) -> str:
@@ -67,9 +71,9 @@ class _Capitals(dict):
 def entry_text(entry: Message) -> str:
     """A message with its level, its meaning and what to do."""
     form = f"`{entry.form}`" + (f" on a line with {entry.when}" if entry.when else "")
-    head = f"**{form}** ({level(entry)})" if entry.severity != ANSWER or entry.status else f"**{form}**"
     advice = f" *What to do:* {quoted(shown(entry.advice))}" if entry.advice else ""
-    return f"- {head}, “{quoted(shown(entry.text))}”: {entry.meaning.replace('{{}}', '{}')}{advice}\n"
+    meaning = entry.meaning.replace("{{}}", "{}")
+    return f"- **{form}** ({level(entry)}), “{quoted(shown(entry.text))}”: {meaning}{advice}\n"
 
 
 def quoted(text: str) -> str:

@@ -612,15 +612,16 @@ def path_option(text: str) -> bytes:
 def parse_words(words: list[str]) -> argparse.Namespace:
     parser = argparse.ArgumentParser(
         prog="tar_to_image", description="Makes a tree image of a root file system in a tar archive.")
-    parser.add_argument("tar", nargs="?", metavar="ROOT.tar", help="else standard input is read")
+    parser.add_argument("tar", nargs="?", metavar="ROOT.tar", help="the archive (default: standard input)")
     parser.add_argument("--folder", metavar="FOLDER",
-                        help="the tree comes into this folder, which is absent or empty, and no image is written")
+                        help="write the tree into this folder, which is absent or empty, and no image")
     parser.add_argument("--strict", action="store_true",
                         help="what an image cannot hold is an error, and no image is written")
     parser.add_argument("--fact", action="append", type=fact_option, default=[],
-                        metavar="LETTER=VALUE", help="a fact; without a value the fact is left out")
+                        metavar="LETTER=VALUE",
+                        help="the value of a specifier, as b=BOOTID; an empty value removes the one that the tree gives")
     parser.add_argument("--inline-limit", type=limit_option, default=None, metavar="BYTES",
-                        help="contents over this length stand as a marker (65536, halved until all that "
+                        help="contents over this length are replaced by a marker (65536, halved until all that "
                              "stays inline has at most 8 MiB)")
     parser.add_argument("--inline", action="append", type=path_option, default=[], metavar="PATH",
                         help="a file whose contents stay in the image, whatever its length")

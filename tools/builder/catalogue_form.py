@@ -14,9 +14,9 @@ from functools import cached_property
 ERROR, WARNING, NOTE, ANSWER = "error", "warning", "note", "answer"
 SEVERITIES = {
     ERROR: "the line, or the whole run, was not carried out",
-    WARNING: "something to look at that does not change the status of `provision`",
-    NOTE: "most root file systems meet it, and nothing needs to be done",
-    ANSWER: "what a report, an explanation or a stopped run says",
+    WARNING: "something to look at that does not change the status of `provision`; `provision-image check` ends with 1",
+    NOTE: "many root file systems meet it, and usually nothing needs to be done",
+    ANSWER: "what a report, an explanation, `generate` or a stopped run says",
 }
 
 TMPFILES, SYSUSERS = "systemd-tmpfiles", "systemd-sysusers"

@@ -18,18 +18,18 @@ FAULTS = Section(
               "An `m` line names no group, or an `r` line no range.", "Write it in the third field.", "id"),
         fault("BadName", "{field} is not a name of a user or a group",
               "A name does not begin with a letter or `_`, has other characters than letters, digits, `_` and `-`, or "
-              "has more than 31 characters. The name of an `r` line is not `-`.",
+              "has more than 31 characters. Or an `r` line has a name other than `-`.",
               "Correct the name.", "name", "id"),
         fault("BadId", "{field} is not an ID",
-              "The ID is neither `-`, a number from 0 to 4294967294 other than 65535, a path, nor, in a `u` line, "
-              "`UID:GID` or `UID:GROUP`. The paths `/` and `/etc` and those of account files are not allowed.",
-              "Write a number, or - for the next free one.", "id"),
-        fault("BadRange", "{field} is not a range of numbers",
-              "The range of an `r` line is not one number, or two with the lower one first (`r - 9-5`).",
+              "The ID is none of these: `-`; a number from 0 to 4294967294 except 65535; a path other than `/`, `/etc` and "
+              "those of account files; in a `u` line also `UID:GID`, `UID:GROUP`, `-:GID` and `-:GROUP`.",
+              "Write a number, or - for a free one.", "id"),
+        fault("BadRange", "{field} is not a range of IDs",
+              "The range of an `r` line must be one ID, or two with the lower one first. So `r - 9-5` is not one.",
               "Write it as 500-599.", "id"),
         fault("BadField", "{field} is not allowed here",
               "The comment, the home directory or the shell has a colon or a control character. Or the home directory "
-              "or the shell is not an absolute path. Or the line goes on behind its last field.",
+              "or the shell is not an absolute path. Or the line goes on after its last field.",
               "Correct the field. A comment with blanks needs quotes.", "gecos", "home", "shell", "rest"),
     ),
     SYSUSERS,
@@ -40,14 +40,15 @@ ACCOUNTS = Section(
     "After each message of this section with status 1 or 73 no account file was changed.",
     (
         Message("InUse", AT_LINE + "NUMBER is in use for NAME",
-                "'{name}' does not get the number {number}, which another account has",
-                "The line asks for NUMBER for the user or group NAME. But another user has this UID, or a group with "
-                "another name has this GID. NAME was made all the same. It has the number of its group, or the "
-                "next free number of the pool.",
-                "Write another number or -, or put {name} into the account file of the image beforehand.",
+                "'{name}' does not get the ID {number}, which another account has",
+                "The line asks for the ID NUMBER for the user or group NAME. But another user has this UID, or a group "
+                "with another name has this GID. NAME was made all the same. A user got the GID of the group of its own "
+                "name, if there is one, and the number is free as a UID and is not 0. In all other cases NAME got the "
+                "highest free ID of the pool. The pool is 1 to 999, or the ranges of all `r` lines.",
+                "Write another ID or -, or put {name} into the account file of the image beforehand.",
                 ("id",), WARNING),
-        Message("NoFreeId", "no free id for NAME", "there is no free number for '{name}'",
-                "All numbers of the pool are used up, so nothing was done. The pool is 1 to 999, or the ranges of all "
+        Message("NoFreeId", "no free id for NAME", "there is no free ID for '{name}'",
+                "All IDs of the pool are in use, so nothing was done. The pool is 1 to 999, or the ranges of all "
                 "`r` lines.",
                 "Add an r line with a wider range to a file in sysusers.d.", (), ERROR, "1"),
         Message("AccountFile", "PATH is a KIND, left", "the account file {path} is a {kind}",

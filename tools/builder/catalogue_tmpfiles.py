@@ -22,9 +22,9 @@ FIELDS = Section(
         fault("OpenQuote", "a quote that is never closed",
               "A field begins with a quote, and the line ends before the quote is closed.",
               "Close the quote, or write \\x22 for a double and \\x27 for a single quote.", "line"),
-        fault("GluedQuote", "no blank behind a closing quote",
-              'Something follows directly behind a closing quote, as in `d "/a"b`.',
-              "Put a blank behind the quote, or put the quotes around the whole field.", "line"),
+        fault("GluedQuote", "no blank after a closing quote",
+              'Something follows directly after a closing quote, as in `d "/a"b`.',
+              "Put a blank after the quote, or put the quotes around the whole field.", "line"),
         fault("BadEscape", "{field} is not an escape",
               "A backslash is followed by something that is not an escape, as in `d /a\\q`.",
               "Write \\\\ for a backslash, and \\xHH for the byte HH.", "line"),
@@ -36,8 +36,8 @@ FIELDS = Section(
               "Write %% for a percent sign.", "specifier"),
         Message("MissingFact", AT_LINE + "MissingFact", "the image has no {fact} for {field}",
                 "The line uses a specifier whose value is known on a running system only: `%a`, `%b`, `%H`, `%l`, "
-                "`%m` or `%v`. The image has no [fact](FORMAT.md#facts) of this letter.",
-                "Nothing needs to be done if the line is for a running system. Else give the value by "
+                "`%m` or `%v`. The image does not give that value ([facts](FORMAT.md#facts)).",
+                "Nothing needs to be done if the line is for a running system. Otherwise give the value by "
                 "--fact {letter}=VALUE.",
                 ("specifier",), NOTE, "65"),
     ),
@@ -48,15 +48,15 @@ TYPES = Section(
     "The line is left out, and the status is 65.",
     (
         fault("UnknownType", "unknown type {field}",
-              "The first field begins with a letter that is not a type of tmpfiles.d(5).",
-              "Correct the type. Types of later versions of systemd are not known.", "type"),
+              "The first field does not begin with the letter of a type of tmpfiles.d(5).",
+              "Correct the type. The types k and K of systemd 262 are not known.", "type"),
         Message("Credential", AT_LINE + "BadModifier", "{field} asks for a credential, which an image does not have",
                 "The type has the modifier `^`, so the argument is the name of a credential. Credentials belong to a "
                 "running system.", "Nothing needs to be done. A link to /dev/null in /etc/tmpfiles.d, with the name of "
                 "the file, hides its lines.", ("modifier",), NOTE, "65", "a type with `^`"),
         fault("BadModifier", "the type {field} has a modifier that it does not take",
-              "The type is followed by a mark that it does not take, or by one mark twice, as in `d+ /a`.",
-              "Remove the mark.", "type"),
+              "The type is followed by a modifier that it does not take, as in `d+ /a`, or by one modifier twice.",
+              "Remove the modifier.", "type"),
         fault("NotAbsolute", "{field} is not an absolute path",
               "The path, or the source of a `C` line, does not begin with a slash.",
               "Write the path from the root.", *BOTH),
@@ -91,12 +91,12 @@ TYPES = Section(
               "The mode is not an octal number up to 7777, or has other prefixes than `~` and `:`, each once.",
               "Write octal digits, such as 0755.", "mode"),
         fault("UnknownUser", "unknown user {field}",
-              "Neither the image's /etc/passwd has this user, nor is the field a number.",
-              "Run systemd-sysusers first, add a line for this user to a file in sysusers.d, or write the number.",
+              "The image's /etc/passwd has no such user, and the field is not a UID.",
+              "Run systemd-sysusers first, add a line for this user to a file in sysusers.d, or write the UID.",
               "user"),
         fault("UnknownGroup", "unknown group {field}",
-              "Neither the image's /etc/group has this group, nor is the field a number.",
-              "Run systemd-sysusers first, add a line for this group to a file in sysusers.d, or write the number.",
+              "The image's /etc/group has no such group, and the field is not a GID.",
+              "Run systemd-sysusers first, add a line for this group to a file in sysusers.d, or write the GID.",
               "group"),
         fault("BadStampLetter", "{field} begins with a letter that is not a timestamp's",
               "A letter before the colon of the age is none of `a`, `b`, `c`, `m`, `A`, `B`, `C` and `M` (`z:1d`).",
@@ -127,15 +127,16 @@ TYPES = Section(
         fault("EmptyEntry", "an empty entry in the ACL",
               "The ACL has nothing between two commas.", "Remove a comma.", "acl"),
         fault("BadTag", "{field} is not an ACL entry",
-              "An entry of the ACL is not `TAG:NAME:PERMISSIONS` with the tag `user`, `group`, `mask` or `other`, or "
-              "gives a name to `mask` or `other`.", "Write it as group:adm:r-x.", "acl"),
+              "An entry of the ACL is not `TAG:NAME:PERMISSIONS`, or gives a name to a mask or to others. TAG is `user` or "
+              "`u`, `group` or `g`, `mask` or `m`, `other` or `o`. `default:` or `d:` may stand before it.",
+              "Write it as group:adm:r-x.", "acl"),
         fault("UnknownName", "the ACL entry {field} names an unknown user or group",
               "The account files of the image have no user or group of this name.",
-              "Run systemd-sysusers first, add a line for this name to a file in sysusers.d, or write the number.",
+              "Run systemd-sysusers first, add a line for this name to a file in sysusers.d, or write the ID.",
               "acl"),
         Message("ConditionalExecute", AT_LINE + "BadPerm", "the ACL entry {field} has the permission X",
-                "The permission `X` (execute for directories and executable files alone) is known to newer versions of "
-                "systemd. The program does not know it, and older versions of systemd do not either.",
+                "The permission `X` (execute for directories and executable files alone) is known to systemd 257, and not "
+                "to 252. The program does not know it either.",
                 "Nothing needs to be done for an image. To have the entries, write r-x for directories and r-- for "
                 "files.", ("acl",), NOTE, "65", "a permission with `X`"),
         fault("BadPerm", "the ACL entry {field} has permissions other than r, w, x and -",

@@ -32,7 +32,7 @@ def add_arguments(parser: argparse.ArgumentParser) -> None:
     add_input(parser)
     add_run_options(parser)
     parser.add_argument("--only", action="append", default=[], metavar="GLOB",
-                        help="check only configuration files whose path matches")
+                        help="show only messages about configuration files whose path matches; all files are read")
 
 
 def run(arguments: argparse.Namespace) -> int:

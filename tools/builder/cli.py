@@ -17,12 +17,12 @@ from .version import version
 
 COMMANDS = {
     "apply": "make what the configuration of a root asks for, and write the new root",
-    "layer": "write an OCI layer of what the runs change alone",
+    "layer": "write an OCI layer of only what the runs change",
     "diff": "show what the runs would change, path by path",
     "check": "check the configuration of a root, as for a CI job",
     "why": "say which lines make, change, clean or remove a path",
 }
-STATUSES = ("exit status: 0 well; 1 a line is invalid or was refused, or a difference with --exit-code; "
+STATUSES = ("exit status: 0 success; 1 a line is invalid or was refused, or there is a difference with --exit-code; "
             "2 it could not run")
 
 

@@ -177,8 +177,8 @@ class _Judge:
                        found.line, source, span, self._words)
 
     def _in_use(self, number: str, name: str) -> str:
-        """Who has the number that a line fixes, and which number the user or group of the line got."""
-        text = f"'{name}' does not get the number {number}, which "
+        """Who has the ID that a line fixes, and which ID the user or group of the line got."""
+        text = f"'{name}' does not get the ID {number}, which "
         holders = [it.decode() for it in (self._after or self._files).holders(int(number)) if it.decode() != name]
         text += f"'{holders[0]}' has" if holders else "another account has"
         got = self._after.number_of(plain_path(name.encode())) if self._after else None

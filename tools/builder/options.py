@@ -42,16 +42,17 @@ def add_run_options(parser: argparse.ArgumentParser) -> None:
                         help="the time of the runs, as 2026-01-01T00:00:00Z (default: SOURCE_DATE_EPOCH if that is "
                              "set, otherwise the clock's)")
     parser.add_argument("--fact", action="append", default=[], type=fact_option, metavar="LETTER=VALUE",
-                        help="the value of a specifier, as b=BOOTID; without a value the root's own is left out")
+                        help="the value of a specifier, as b=BOOTID; an empty value removes the one that the root gives")
     parser.add_argument("--strict", action="store_true",
-                        help="notes count as errors, and what a tree image cannot hold is an error")
+                        help="warnings and notes of the runs count as errors, and what a tree image cannot hold ends "
+                             "the command")
     parser.add_argument("--json", action="store_true", help="messages as JSON objects, one a line")
 
 
 def add_ids_option(parser: argparse.ArgumentParser) -> None:
     """The option on the numbers of new users and groups."""
     parser.add_argument("--ids-from", metavar="OLD",
-                        help="new users and groups get the numbers that they have in this older root: a tar, a "
+                        help="new users and groups get the UIDs and GIDs that they have in this older root: a tar, a "
                              "prepared folder, or a directory with passwd and group")
 
 

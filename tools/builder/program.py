@@ -109,7 +109,7 @@ class Program:
         if status < 0:
             why = f"it was ended by signal {-status}"
         elif messages == [b"usage"]:
-            why = "these words have no meaning"
+            why = "these arguments are not valid"
         else:
             why = FAILURES.get(status, f"it ended with status {status} and no image")
         said = messages[0].decode(errors="backslashreplace") if messages else ""

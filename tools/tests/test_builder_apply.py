@@ -235,7 +235,7 @@ class Faults(BuilderCase):
         self.put_file("root.tar", PLAIN)
         words = f"{self.program} systemd-sysusers --now=1970-01-01T00:00:00.000000Z"
         for script, why in (("exit 66", "it takes the input for no tree image"), ("kill -9 $$", "it was ended by signal 9"),
-                            ("echo ': usage'; exit 1", "these words have no meaning (usage)"),
+                            ("echo ': usage'; exit 1", "these arguments are not valid (usage)"),
                             ("exit 0", "it ended with status 0 and no image")):
             self.set_program(f"#!/bin/sh\ncat > /dev/null\n{script}\n")
             self.kept("apply", "root.tar", "new.tar", "--now=1970-01-01T00:00:00Z",

@@ -64,7 +64,7 @@ SYSUSERS = (
 
 ACCOUNTS = b"root:x:0:0::/:/bin/sh\na:x:1001:7::/:\n"
 FILES = ("/etc/tmpfiles.d/a.conf", "/etc/sysusers.d/a.conf")
-HELP = "Run systemd-sysusers first, add a line for this user to a file in sysusers.d, or write the number."
+HELP = "Run systemd-sysusers first, add a line for this user to a file in sysusers.d, or write the UID."
 
 
 def with_line(line: bytes, file: str = "/etc/tmpfiles.d/a.conf") -> bytes:
@@ -156,7 +156,7 @@ class Levels(unittest.TestCase):
         before = with_line(b"u b 1001", file)
         after = before.replace(base64.b64encode(ACCOUNTS), base64.b64encode(ACCOUNTS + b"b:x:999:999::/:\n"))
         (finding,) = judge([f"{file}:2: 1001 is in use for b".encode()], before, after=after)
-        self.assertEqual(finding.sentence, "'b' does not get the number 1001, which 'a' has; it gets 999")
+        self.assertEqual(finding.sentence, "'b' does not get the ID 1001, which 'a' has; it gets 999")
         self.assertEqual((finding.severity, mark_of(finding)), ("warning", b"1001"))
 
     def test_an_unknown_message_is_an_error(self):

@@ -118,6 +118,15 @@ class Run(ProgramCase):
                       (self.room / "differences.txt").read_text())
         self.assertIn('"kind": "summary"', (self.room / "messages.json").read_text())
 
+    def test_a_bad_line_of_another_package_does_not_fail_the_job(self):
+        self.need("bash", "tar")
+        (self.room / "more/usr/lib/tmpfiles.d").mkdir(parents=True)
+        (self.room / "more/usr/lib/tmpfiles.d/other.conf").write_text("y /a\n")
+        self.shell("tar -rf root.tar -C more usr/lib/tmpfiles.d/other.conf")
+        self.shell("".join(step for step in steps() if "docker" not in step))
+        self.assertIn("+ /run/app  directory", (self.room / "differences.txt").read_text())
+        self.assertIn('"code": "UnknownType"', (self.room / "messages.json").read_text())
+
     def test_the_script_of_mkosi(self):
         self.need("bash", "tar")
         if os.geteuid() != 0:

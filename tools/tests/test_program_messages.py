@@ -54,7 +54,7 @@ class OfTheProgram(ProgramCase):
     def test_who_has_a_number_is_said(self):
         given = configured("sysusers.d", b"u b 0")
         finding = self.explained(["systemd-sysusers"], given)[0]
-        self.assertEqual(finding.sentence, "'b' does not get the number 0, which 'root' has; it gets 999")
+        self.assertEqual(finding.sentence, "'b' does not get the ID 0, which 'root' has; it gets 999")
 
     def test_each_hazard_is_explained(self):
         for lines, code in ((b"w+ /a - - - - x", "HazardAppend"), (b"C /b - - - - /a\nf /a/x", "HazardSource"),
