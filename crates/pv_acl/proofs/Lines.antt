@@ -6,7 +6,7 @@ use Rattle.pv_acl.specs.declared.acl_fault.AclFault.{AclFault}
 use Rattle.pv_acl.specs.declared.acl_fault.AclFault.TheVariants as fault
 use Rattle.pv_acl.specs.declared.line.AclLine.{AclLine}
 use Rattle.pv_acl.specs.declared.parse.PartEntry.{PartEntry}
-use Rattle.pv_acl.specs.Entries.{with_front, with_back, added, joined, line_of, Gives}
+use Rattle.pv_acl.specs.Entries.{with_first_entry, with_back, added, joined, line_of, Gives}
 use Rattle.pv_path.proofs.Tests.{texts, get_or-texts}
 
 -- a line, or a fault, and then the entries of a line, or their fault
@@ -15,7 +15,7 @@ then_line (Err f) rest = Err f
 then_line (Ok line) (Err f) = Err f
 then_line (Ok line) (Ok rest) = Ok (record { access = line.access ++ rest.access; default_part = line.default_part ++ rest.default_part })
 
-front_is_back : (line : AclLine) (b : Bool) (x : Entry) (rest : AclLine) → then_line (Ok line) (Ok (with_front (record { of_default = b; entry = x }) rest)) ≡ then_line (Ok (with_back line (record { of_default = b; entry = x }))) (Ok rest)
+front_is_back : (line : AclLine) (b : Bool) (x : Entry) (rest : AclLine) → then_line (Ok line) (Ok (with_first_entry (record { of_default = b; entry = x }) rest)) ≡ then_line (Ok (with_back line (record { of_default = b; entry = x }))) (Ok rest)
 front_is_back line true x rest =
     ap (λ (es : List Entry). Ok (record { access = line.access ++ rest.access; default_part = es })) (sym (append_assoc line.default_part (x ∷ []) rest.default_part))
 front_is_back line false x rest =

@@ -85,31 +85,31 @@ module _ {X K : Type 0} (key : X → K) (lower : K → K → Bool) (trans : (a b
   -- ---- an item put at its place
 
   -- how many of the items come before one
-  abbrev entry_tag_of : X → List X → ℕ
-  entry_tag_of y xs = prefix_len (λ x. before x y) xs
+  abbrev index_of : X → List X → ℕ
+  index_of y xs = prefix_len (λ x. before x y) xs
 
-  put-insert : (y : X) (xs : List X) → is_ordered_by before xs ≡ true → option_map key (slice_get xs (entry_tag_of y xs)) ≢ Some (key y) → put_by before y xs ≡ insert xs (entry_tag_of y xs) y
+  put-insert : (y : X) (xs : List X) → is_ordered_by before xs ≡ true → option_map key (slice_get xs (index_of y xs)) ≢ Some (key y) → put_by before y xs ≡ insert xs (index_of y xs) y
   put-insert y [] o other = refl
   put-insert y (x ∷ xs) o other = by_test (put-insert y xs parts.1) (before x y) refl
     where
       parts : (list_all (before x) xs ≡ true) × (is_ordered_by before xs ≡ true)
       parts = and_parts (list_all (before x) xs) (is_ordered_by before xs) o
 
-      by_test : (option_map key (slice_get xs (entry_tag_of y xs)) ≢ Some (key y) → put_by before y xs ≡ insert xs (entry_tag_of y xs) y) → (b : Bool) → before x y ≡ b → put_by before y (x ∷ xs) ≡ insert (x ∷ xs) (entry_tag_of y (x ∷ xs)) y
-      by_test rest true e = rw (e, asym (key x) (key y) e, suc_is (entry_tag_of y xs)) (ap (λ (zs : List X). x ∷ zs) (rest (rw (e, suc_is (entry_tag_of y xs)) at other)))
+      by_test : (option_map key (slice_get xs (index_of y xs)) ≢ Some (key y) → put_by before y xs ≡ insert xs (index_of y xs) y) → (b : Bool) → before x y ≡ b → put_by before y (x ∷ xs) ≡ insert (x ∷ xs) (index_of y (x ∷ xs)) y
+      by_test rest true e = rw (e, asym (key x) (key y) e, suc_is (index_of y xs)) (ap (λ (zs : List X). x ∷ zs) (rest (rw (e, suc_is (index_of y xs)) at other)))
       by_test rest false e =
           let after : before y x ≡ true = true_from_ne_false (before y x) (λ same. absurd (rw e at other (ap (λ (w : K). Some w) (same_key (key x) (key y) e same)))) in
           rw (e, none_before x y xs e parts.0, after, filter_whole (before y) xs (all_after x y xs e parts.0))
 
-  put-set : (y : X) (xs : List X) → is_ordered_by before xs ≡ true → option_map key (slice_get xs (entry_tag_of y xs)) ≡ Some (key y) → put_by before y xs ≡ set xs (entry_tag_of y xs) y
+  put-set : (y : X) (xs : List X) → is_ordered_by before xs ≡ true → option_map key (slice_get xs (index_of y xs)) ≡ Some (key y) → put_by before y xs ≡ set xs (index_of y xs) y
   put-set y [] o same = cc
   put-set y (x ∷ xs) o same = by_test (put-set y xs parts.1) (before x y) refl
     where
       parts : (list_all (before x) xs ≡ true) × (is_ordered_by before xs ≡ true)
       parts = and_parts (list_all (before x) xs) (is_ordered_by before xs) o
 
-      by_test : (option_map key (slice_get xs (entry_tag_of y xs)) ≡ Some (key y) → put_by before y xs ≡ set xs (entry_tag_of y xs) y) → (b : Bool) → before x y ≡ b → put_by before y (x ∷ xs) ≡ set (x ∷ xs) (entry_tag_of y (x ∷ xs)) y
-      by_test rest true e = rw (e, asym (key x) (key y) e, suc_is (entry_tag_of y xs)) (ap (λ (zs : List X). x ∷ zs) (rest (rw (e, suc_is (entry_tag_of y xs)) at same)))
+      by_test : (option_map key (slice_get xs (index_of y xs)) ≡ Some (key y) → put_by before y xs ≡ set xs (index_of y xs) y) → (b : Bool) → before x y ≡ b → put_by before y (x ∷ xs) ≡ set (x ∷ xs) (index_of y (x ∷ xs)) y
+      by_test rest true e = rw (e, asym (key x) (key y) e, suc_is (index_of y xs)) (ap (λ (zs : List X). x ∷ zs) (rest (rw (e, suc_is (index_of y xs)) at same)))
       by_test rest false e =
           let here : Some (key x) ≡ Some (key y) = rw e at same in
           let is : key x ≡ key y = same_Some (key x) (key y) here in
@@ -117,14 +117,14 @@ module _ {X K : Type 0} (key : X → K) (lower : K → K → Bool) (trans : (a b
           rw (e, none_before x y xs e parts.0, after, filter_whole (before y) xs (all_after x y xs e parts.0))
 
   -- the two ways in which code puts an item, over lists that are all the same
-  pub set_is : (y : X) (xs s t v : List X) (at : ℕ) → is_ordered_by before xs ≡ true → s ≡ xs → t ≡ xs → xs ≡ v → at ≡ entry_tag_of y s → option_map key (slice_get t at) ≡ Some (key y) → set xs at y ≡ put_by before y v
+  pub set_is : (y : X) (xs s t v : List X) (at : ℕ) → is_ordered_by before xs ≡ true → s ≡ xs → t ≡ xs → xs ≡ v → at ≡ index_of y s → option_map key (slice_get t at) ≡ Some (key y) → set xs at y ≡ put_by before y v
   set_is y xs s t v at o es et ev place same =
-      let place' : at ≡ entry_tag_of y xs = rw (← es) place in
-      let same' : option_map key (slice_get xs (entry_tag_of y xs)) ≡ Some (key y) = rw (← place', ← et) same in
+      let place' : at ≡ index_of y xs = rw (← es) place in
+      let same' : option_map key (slice_get xs (index_of y xs)) ≡ Some (key y) = rw (← place', ← et) same in
       rw (place', ← ev) (sym (put-set y xs o same'))
 
-  pub insert_is : (y : X) (xs s t v ws : List X) (at : ℕ) → is_ordered_by before xs ≡ true → s ≡ xs → t ≡ xs → xs ≡ v → at ≡ entry_tag_of y s → option_map key (slice_get t at) ≢ Some (key y) → ws ≡ insert xs at y → ws ≡ put_by before y v
+  pub insert_is : (y : X) (xs s t v ws : List X) (at : ℕ) → is_ordered_by before xs ≡ true → s ≡ xs → t ≡ xs → xs ≡ v → at ≡ index_of y s → option_map key (slice_get t at) ≢ Some (key y) → ws ≡ insert xs at y → ws ≡ put_by before y v
   insert_is y xs s t v ws at o es et ev place other put =
-      let place' : at ≡ entry_tag_of y xs = rw (← es) place in
-      let other' : option_map key (slice_get xs (entry_tag_of y xs)) ≢ Some (key y) = rw (← place', ← et) other in
+      let place' : at ≡ index_of y xs = rw (← es) place in
+      let other' : option_map key (slice_get xs (index_of y xs)) ≢ Some (key y) = rw (← place', ← et) other in
       rw (put, place', ← ev) (sym (put-insert y xs o other'))

@@ -11,8 +11,8 @@ use Rattle.pv_acl.proofs.Order.{who_trans, who_asym, who_same}
 use Rattle.pv_acl.proofs.Ordered as ordered
 
 -- how many of the entries stand before one
-abbrev pub entry_tag_of : Named → List Named → ℕ
-entry_tag_of y xs = prefix_len (λ x. is_before x y) xs
+abbrev pub index_of : Named → List Named → ℕ
+index_of y xs = prefix_len (λ x. is_before x y) xs
 
 abbrev whom : Named → Who
 whom x = x.who
@@ -30,10 +30,10 @@ pub is_ordered-put_named : (y : Named) (xs : List Named) → is_ordered xs ≡ t
 is_ordered-put_named = ordered.is_ordered-put whom lower who_trans who_asym who_same
 
 -- the two ways in which the code puts an entry, over lists that are all the same
-pub set_is : (y : Named) (xs s t v : List Named) (at : ℕ) → is_ordered xs ≡ true → s ≡ xs → t ≡ xs → xs ≡ v → at ≡ entry_tag_of y s → option_map (λ x. x.who) (slice_get t at) ≡ Some y.who → set xs at y ≡ put_named y v
+pub set_is : (y : Named) (xs s t v : List Named) (at : ℕ) → is_ordered xs ≡ true → s ≡ xs → t ≡ xs → xs ≡ v → at ≡ index_of y s → option_map (λ x. x.who) (slice_get t at) ≡ Some y.who → set xs at y ≡ put_named y v
 set_is = ordered.set_is whom lower who_trans who_asym who_same
 
-pub insert_is : (y : Named) (xs s t v ws : List Named) (at : ℕ) → is_ordered xs ≡ true → s ≡ xs → t ≡ xs → xs ≡ v → at ≡ entry_tag_of y s → option_map (λ x. x.who) (slice_get t at) ≢ Some y.who → ws ≡ insert xs at y → ws ≡ put_named y v
+pub insert_is : (y : Named) (xs s t v ws : List Named) (at : ℕ) → is_ordered xs ≡ true → s ≡ xs → t ≡ xs → xs ≡ v → at ≡ index_of y s → option_map (λ x. x.who) (slice_get t at) ≢ Some y.who → ws ≡ insert xs at y → ws ≡ put_named y v
 insert_is = ordered.insert_is whom lower who_trans who_asym who_same
 
 pub ordered_as : (y : Named) (xs v ws : List Named) → is_ordered xs ≡ true → xs ≡ v → ws ≡ put_named y v → is_ordered ws ≡ true

@@ -5,22 +5,22 @@ ghost use Rattle.pv_acl.specs.declared.acl_fault.AclFault.TheVariants.{Memory};
 use std::alloc::{AllocError, AllocFailed};
 use thiserror::Error;
 
-/// Why a text is not a list of ACL entries, in the order in which an entry is checked.
+/// Why a text is not a list of ACL entries. The variants are in the order in which one entry is checked.
 #[derive(Clone, Copy, Debug, PartialEq, Eq, Error)]
 pub enum AclFault {
-    /// The entry has no bytes.
+    /// The entry has no bytes, for example between two commas in a row.
     #[error("EmptyEntry")]
     EmptyEntry,
-    /// The entry has not three parts, or its tag is unknown, or mask or other has a name.
+    /// The entry does not have three parts, its tag is unknown, or an entry for the mask or for others has a name.
     #[error("BadTag")]
     BadTag,
-    /// The name is neither an allowed ID nor a name that the lookup finds.
+    /// The name is neither an allowed ID (see `written_id`) nor a name that the lookup finds.
     #[error("UnknownName")]
     UnknownName,
-    /// The permissions are not one to three characters of `r`, `w`, `x` and `-`, or repeat a letter.
+    /// The permissions are not one to three characters of `r`, `w`, `x` and `-`, or one of the letters is repeated.
     #[error("BadPerm")]
     BadPerm,
-    /// There is no memory left.
+    /// An allocation failed.
     #[error("Memory")]
     Memory,
 }

@@ -1,4 +1,4 @@
-//! What the entries of a line make of an ACL (tmpfiles.d(5), types a and A).
+//! Applies the entries of a configuration line to an ACL (tmpfiles.d(5), types `a` and `A`).
 ghost use Rattle.std.specs.Prelude.{◌≡◌, true, IfOk, if◌then◌else◌};
 ghost use Rattle.pv_acl.specs.Parts.{is_acl};
 ghost use Rattle.pv_acl.specs.Applying.{part_after, default_after, acl_after, kept, is_line};
@@ -7,11 +7,21 @@ use crate::line::{AclLine, EntryList, How};
 use crate::part::{Acl, Part};
 use std::alloc::{AllocError, Global};
 
-/// The ACL that a line makes of another (tmpfiles.d(5), types a and A). The access entries change the access part, and
-/// the default entries change the default part of a directory. A part without entries in the line stays. Base entries
-/// replace those of the part. Under `Replace` the named entries and the mask are exactly those of the line; under `Add`
-/// they are put over the old ones. An absent default part first takes the base entries of the access part as the line
-/// leaves it.
+/// Applies the entries of a configuration line to the ACL `old`, and returns the result (tmpfiles.d(5), type `a`).
+///
+/// - The access entries of the line change the access part.
+/// - If `directory` says that the object is a directory, the default entries change the default part. Otherwise it
+///   stays.
+/// - A part for which the line has no entries stays as it was.
+/// - A base entry of the line replaces that of the part. Of two entries for the same user, group, base entry or mask,
+///   the later one counts.
+/// - With `How::Replace` the part keeps none of its old named entries and no old mask. With `How::Add` they stay,
+///   unless the line has an entry for the same user or group, or a mask.
+/// - If the line has default entries and the directory has no default part yet, a new one begins with the base entries
+///   that the access part has after the line was applied.
+///
+/// If `old` and the entries of the line are allowed (permissions of at most 7, IDs of at most 4294967294), so is
+/// the result. The only error is `AllocError`.
 pub fn apply_entries(
     alloc: Global,
     old: &Acl,
@@ -31,7 +41,7 @@ pub fn apply_entries(
     })
 }
 
-/// The part after the entries of a line for it.
+/// Returns a part after the entries of a line for it.
 fn change_part(
     alloc: Global,
     part: &Part,
@@ -50,7 +60,7 @@ fn change_part(
     Ok(new)
 }
 
-/// What stays of a part under the entries of a line.
+/// Returns what stays of a part before the entries of a line are put into it.
 fn keep(alloc: Global, part: &Part, how: How) -> Result<Part, AllocError>
     ensures { IfOk result (λ new. new ≡ kept how part.now) }
 {
@@ -60,7 +70,7 @@ fn keep(alloc: Global, part: &Part, how: How) -> Result<Part, AllocError>
     }
 }
 
-/// The default part after the entries of a line for it, which change that of a directory alone.
+/// Returns the default part after the entries of a line for it. Only that of a directory changes.
 fn change_default(
     alloc: Global,
     access: &Part,

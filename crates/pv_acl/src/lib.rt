@@ -1,5 +1,4 @@
-//! Access control lists as acl(5) has them: permissions, parts with their named entries, the lines
-//! of a configuration that change them, and their texts.
+//! Access control lists (acl(5)): permissions, named entries, the entries of configuration lines, and their texts.
 #![tactic(auto)]
 
 mod acl_fault;

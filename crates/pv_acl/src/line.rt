@@ -1,11 +1,11 @@
-//! ACL entries as configuration lines give them.
+//! The ACL entries of a configuration line (tmpfiles.d(5), types `a` and `A`).
 ghost use Rattle.std.specs.Prelude.{◌≡◌, IfOk};
 
 use crate::perm::{Named, Perm};
 use pv_path::Sequence;
 use std::alloc::AllocError;
 
-/// What one entry of a line sets: a base entry, a named entry or the mask.
+/// One entry of a configuration line: a base entry, a named entry or the mask (acl(5)).
 #[derive(Clone, Copy, PartialEq, Eq)]
 pub enum Entry {
     /// The permissions of the owner.
@@ -14,24 +14,26 @@ pub enum Entry {
     Group(Perm),
     /// The permissions of all others.
     Other(Perm),
-    /// The permissions of a named user or group.
+    /// The permissions of one more user or group.
     Named(Named),
-    /// The mask: the most that the owning group and the named entries get.
+    /// The mask: the most that the owning group and the named entries are granted.
     Mask(Perm),
 }
 
-/// Entries of a line in the order in which they stand there. Clauses see the list.
+/// The entries of a configuration line, in the order in which they are written.
 pub type EntryList = Sequence<Entry>;
 
-/// The entries of a line of configuration: those for the access part and those for the default part.
+/// The entries of a configuration line: a list for the access part, and a list for the default part.
 #[derive(Clone, Drop)]
 pub struct AclLine {
+    /// The entries without `default:`, for the object itself.
     pub access: EntryList,
+    /// The entries with `default:`, for new objects in a directory.
     pub default_part: EntryList,
 }
 
 impl AclLine {
-    /// A copy of the line.
+    /// Returns a copy of the line. The only error is `AllocError`.
     pub fn copy(&self) -> Result<AclLine, AllocError>
         ensures { IfOk result (λ line. line ≡ self.now) }
     {
@@ -39,11 +41,11 @@ impl AclLine {
     }
 }
 
-/// How the named entries and the mask of a line meet those of a part: in their place, or over them.
+/// What happens to the old named entries and the old mask of a part for which a line has entries.
 #[derive(Clone, Copy, PartialEq, Eq)]
 pub enum How {
-    /// In their place: none of the old named entries and no old mask stays.
+    /// They are removed, so that only those of the line remain (type `a`).
     Replace,
-    /// Over them: the old ones stay where the line has none for the same place.
+    /// They stay, unless the line has an entry for the same user or group, or a mask (type `a+`).
     Add,
 }

@@ -13,8 +13,9 @@ use pv_path::RareList;
 use std::alloc::{AllocError, Global};
 use std::marker::Model;
 
-/// The named entries of a part in order: users by ID, then groups by ID, each once. Clauses see the
-/// list.
+/// The named entries of a part (acl(5)): users by ID, then groups by ID, each user and each group at most once.
+///
+/// In contracts, a value is the list of its entries.
 #[derive(Clone, Drop)]
 pub struct NamedList {
     items: RareList<Named>,
@@ -33,7 +34,7 @@ impl Model for NamedList {
 }
 
 impl NamedList {
-    /// The empty list. It takes no memory.
+    /// Returns the empty list. The call does not allocate.
     pub fn new(alloc: Global) -> NamedList
         ensures { result ≡ [] }
     {
@@ -42,7 +43,10 @@ impl NamedList {
         }
     }
 
-    /// Adds an entry that comes after all others. After running out of memory the list is as before.
+    /// Adds an entry at the end.
+    ///
+    /// The entry must come after all entries of the list. The only error is `AllocError`, and then the list is
+    /// unchanged.
     pub fn push(&mut self, item: Named) -> Result<(), AllocError>
         requires { all_before self.old item ≡ true }
         ensures ok { OnOk result (self.new ≡ self.old ++ item ∷ []) }
@@ -52,13 +56,14 @@ impl NamedList {
         Ok(())
     }
 
-    /// Puts an entry at its place, over one for the same user or group. After running out of memory the list
-    /// is as before.
+    /// Puts an entry where the order has it. It replaces the entry for the same user or group, if there is one.
+    ///
+    /// The only error is `AllocError`, and then the list is unchanged.
     pub fn put(&mut self, item: Named) -> Result<(), AllocError>
         ensures ok { OnOk result (self.new ≡ put_named item self.old) }
         ensures err { OnErr result (self.new ≡ self.old) }
     {
-        let at = entry_tag_of(self.items.as_slice(), &item);
+        let at = index_of(self.items.as_slice(), &item);
         if speaks_of(self.items.as_slice(), at, &item) {
             self.items.set(at, item);
             return Ok(());
@@ -67,28 +72,28 @@ impl NamedList {
         Ok(())
     }
 
-    /// How many entries there are.
+    /// Returns the number of entries.
     pub fn len(&self) -> usize
         ensures { result ≡ length self.now }
     {
         self.items.as_slice().len()
     }
 
-    /// Whether there is no entry.
+    /// Returns whether there are no entries.
     pub fn is_empty(&self) -> bool
         ensures { result ≡ is_empty self.now }
     {
         self.items.as_slice().is_empty()
     }
 
-    /// The entry at an index counted from 0, or nothing past the end.
+    /// Returns the entry at an index counted from 0, or `None` past the last entry.
     pub fn get(&self, i: usize) -> Option<&Named>
         ensures { option_copied result ≡ slice_get self.now i }
     {
         self.items.as_slice().get(i)
     }
 
-    /// The entries as a slice.
+    /// Returns the entries as a slice, in their order.
     pub fn as_slice(&self) -> &[Named]
         ensures value { result.now ≡ self.now }
         ensures ordered { is_ordered self.now ≡ true }
@@ -96,7 +101,7 @@ impl NamedList {
         self.items.as_slice()
     }
 
-    /// A copy of the list.
+    /// Returns a copy of the list. The only error is `AllocError`.
     pub fn copy(&self) -> Result<NamedList, AllocError>
         ensures { IfOk result (λ copy. copy ≡ self.now) }
     {
@@ -118,9 +123,9 @@ impl Eq for NamedList {
     ghost laws = { lists_equiv named_equiv.laws-law };
 }
 
-/// How many of the first entries stand before one.
-fn entry_tag_of(items: &[Named], item: &Named) -> usize
-    ensures place { result ≡ prefix_len (λ x. is_before x item.now) items.now }
+/// Returns how many of the first entries come before `item`.
+fn index_of(items: &[Named], item: &Named) -> usize
+    ensures index { result ≡ prefix_len (λ x. is_before x item.now) items.now }
     ensures within { result ≤ length items.now }
 {
     items
@@ -129,7 +134,7 @@ fn entry_tag_of(items: &[Named], item: &Named) -> usize
         .count()
 }
 
-/// Whether the entry at a place speaks of the same user or group.
+/// Returns whether the entry at an index is for the user or group of `item`.
 fn speaks_of(items: &[Named], at: usize, item: &Named) -> bool
     ensures yes { OnTrue result (option_map (λ x. x.who) (slice_get items.now at) ≡ Some item.now.who) }
     ensures no { OnFalse result (option_map (λ x. x.who) (slice_get items.now at) ≢ Some item.now.who) }

@@ -1,4 +1,4 @@
-//! Decimal numbers and IDs, in their one spelling.
+//! Reads decimal numbers and IDs. Each number has exactly one spelling.
 ghost use Rattle.std.specs.Prelude.{◌≡◌, ◌<◌, ◌≤◌, length, IfSome, IfNone};
 ghost use Rattle.std.specs.Char.{digit_value};
 ghost use Rattle.std.specs.Str.Parse.{digits_value, IsNumeral};
@@ -6,8 +6,10 @@ ghost use Rattle.pv_acl.specs.Numbers.{number_of, odd_start, written_id};
 
 use std::str;
 
-/// The number that a text writes in decimal digits, without a sign and without leading zeros, where it
-/// writes one below 2^64.
+/// Reads a number below 2^64 that is written in decimal digits alone.
+///
+/// Returns `None` for every other text: an empty one, a sign, a leading zero before another digit, another byte, or
+/// a number from 2^64 on. For example, `b"0"` gives 0 and `b"07"` gives `None`.
 pub fn number(text: &[u8]) -> Option<u64>
     ensures { result ≡ number_of text.now }
 {
@@ -23,7 +25,7 @@ pub fn number(text: &[u8]) -> Option<u64>
     }
 }
 
-/// The number that a text of at most 19 bytes writes, if it is one digit or more and nothing else: it is below 2^64.
+/// Reads a text of at most 19 bytes that consists of one or more digits. Its number is below 2^64.
 fn short_number(text: &[u8]) -> Option<u64>
     requires { length text.now ≤ 19 }
     ensures some { IfSome result (λ n. IsNumeral 10 text.now × (n ≡ digits_value 10 text.now)) }
@@ -40,7 +42,7 @@ fn short_number(text: &[u8]) -> Option<u64>
     Some(value)
 }
 
-/// The number that a decimal digit writes.
+/// Returns the value of a decimal digit, or `None` for another byte.
 fn digit_of(byte: u8) -> Option<u64>
     ensures some { IfSome result (λ digit. (digit ≡ digit_value byte) × (digit < 10)) }
     ensures none { IfNone result (digit_value byte < 10 → ⊥) }
@@ -51,14 +53,17 @@ fn digit_of(byte: u8) -> Option<u64>
     }
 }
 
-/// Whether a text begins with a plus, or with a zero before something else.
+/// Returns whether a text begins with a plus sign, or with a zero that is not its only byte.
 fn has_odd_start(text: &[u8]) -> bool
     ensures { result ≡ odd_start text.now }
 {
     matches!(text, [b'+', ..] | [b'0', _, ..])
 }
 
-/// The ID that a text writes, where it writes an allowed one: 0 to 4294967294 without 65535.
+/// Reads the ID of a user or a group from a configuration line: 0 to 4294967294 without 65535.
+///
+/// The text is a number as `number` reads it. Returns `None` for every other text. The numbers 65535 and 4294967295
+/// are not IDs: they are -1 in 16 and 32 bits, which means no ID (chown(2)).
 pub fn written_id(text: &[u8]) -> Option<u32>
     ensures value { result ≡ written_id text.now }
     ensures small { IfSome result (λ id. id ≤ 4294967294) }

@@ -1,4 +1,4 @@
-//! From a text to the ACL entries that it spells, or its first fault.
+//! Reads the ACL entries of a configuration line, or finds their first fault.
 ghost use Rattle.std.specs.Prelude.{◌≡◌, ◌≤◌, ◌<◌, ◌==◌, true, ℕ, List, Option, OnOk, IfOk, IfErr, IfSome, map, length, [], ◌∷◌};
 ghost use Rattle.std.specs.List.{list_all, slice_split};
 ghost use Rattle.std.specs.Option.{option_map};
@@ -15,29 +15,44 @@ use crate::numbers::written_id;
 use crate::perm::{Named, Perm, Who};
 use std::alloc::{AllocError, Global};
 
-/// Where an entry puts its permission.
+/// The entry of a part that a text is for, without its permissions.
 #[derive(Clone, Copy)]
 pub enum EntryTag {
+    /// The base entry of the owner.
     Owner,
+    /// The base entry of the owning group.
     Group,
+    /// The base entry of all others.
     Other,
+    /// The mask.
     Mask,
+    /// The entry of one more user or group.
     Named(Who),
 }
 
-/// An entry, and whether it is for the default part.
+/// An entry, and the part for which it is.
 #[derive(Clone, Copy)]
 pub struct PartEntry {
+    /// Whether the entry is for the default part.
     pub of_default: bool,
+    /// The entry itself.
     pub entry: Entry,
 }
 
-/// The entries of a line of configuration: entries `[default:]TAG:NAME:PERM` with commas between them
-/// (acl(5), tmpfiles.d(5)). TAG is `user`, `group`, `mask` or `other` or the first letter of it;
-/// NAME is a decimal ID from 0 to 4294967294 without 65535, or a name that is looked up, or
-/// empty for a base entry, the mask and other; PERM is one to three characters of `r`, `w`, `x` and `-`,
-/// each letter at most once. The answer is the first fault, entry by entry from the left, in the
-/// order of `AclFault`.
+/// Reads the ACL entries of a configuration line: entries `[default:]TAG:NAME:PERM`, separated by commas
+/// (tmpfiles.d(5)).
+///
+/// - TAG is `user`, `group`, `mask` or `other`, or the first letter of it. `default` may be written `d`.
+/// - NAME of a user or a group is an ID (see `written_id`), otherwise a name that `names` finds.
+/// - An empty NAME means the owner or the owning group. For `mask` and `other`, NAME is always empty.
+/// - PERM is one to three characters of `r`, `w`, `x` and `-`, each letter at most once, in any order. The letter `X`
+///   of setfacl(1) is an error.
+///
+/// For example, `u:1000:rwx,d:g::r-x` gives one access entry, for user 1000, and one default entry, for the owning
+/// group.
+///
+/// An error comes from the first faulty entry from the left. If that entry has several faults, it is the first of
+/// them in the order of `AclFault`. `Memory` may come instead if an allocation fails.
 pub fn parse_acl<N: Names>(alloc: Global, text: &[u8], names: &N) -> Result<AclLine, AclFault>
     ensures reads { Gives result (acl_line_of (N.uid_named names.now) (N.gid_named names.now) text.now) }
     ensures allowed { IfOk result (λ line. is_line line ≡ true) }
@@ -75,14 +90,14 @@ fn add_entry<N: Names>(
     Ok(())
 }
 
-/// Whether a word is written out or as its first letter.
+/// Returns whether a word is written in full or as its first letter.
 fn is_word(word: &[u8], long: &[u8], short: &[u8]) -> bool
     ensures { result ≡ is_word word.now long.now short.now }
 {
     word == long || word == short
 }
 
-/// How often a byte stands in a text.
+/// Returns how often a byte occurs in a text.
 fn times(byte: u8, text: &[u8]) -> usize
     ensures value { result ≡ times byte text.now }
     ensures within { result ≤ length text.now }
@@ -90,7 +105,7 @@ fn times(byte: u8, text: &[u8]) -> usize
     text.iter().filter(|b| **b == byte).count()
 }
 
-/// Whether none of the three letters stands in a text twice.
+/// Returns whether each of `r`, `w` and `x` occurs at most once in a text.
 fn has_letters_once(text: &[u8]) -> bool
     ensures { result ≡ has_letters_once text.now }
 {
@@ -100,7 +115,7 @@ fn has_letters_once(text: &[u8]) -> bool
     reads <= 1 && writes <= 1 && executes <= 1
 }
 
-/// Whether a text is one to three characters of `r`, `w`, `x` and `-`, each letter at most once.
+/// Returns whether a text is one to three characters of `r`, `w`, `x` and `-`, each letter at most once.
 fn is_perm_text(text: &[u8]) -> bool
     ensures { result ≡ is_perm_text text.now }
 {
@@ -121,7 +136,7 @@ fn is_perm_byte(b: u8) -> bool
     b == b'r' || b == b'w' || b == b'x' || b == b'-'
 }
 
-/// The permission that a text spells.
+/// Returns the permission that a text spells, or `None` if it spells none.
 fn perm_of(text: &[u8]) -> Option<Perm>
     ensures { result ≡ perm_of text.now }
 {
@@ -133,10 +148,10 @@ fn perm_of(text: &[u8]) -> Option<Perm>
     })
 }
 
-/// The tag of a user's entry. Without a name it is the owner's.
+/// Returns which entry `user` with this name sets. Without a name it is that of the owner.
 fn user_tag<N: Names>(name: &[u8], names: &N) -> Result<EntryTag, AclFault>
     ensures value { result ≡ named_tag EntryTag.Owner (λ id. who.User id) (N.uid_named names.now) name.now }
-    ensures allowed { IfOk result (λ place. is_entry_tag place ≡ true) }
+    ensures allowed { IfOk result (λ entry_tag. is_entry_tag entry_tag ≡ true) }
 {
     if name.is_empty() {
         return Ok(EntryTag::Owner);
@@ -150,10 +165,10 @@ fn user_tag<N: Names>(name: &[u8], names: &N) -> Result<EntryTag, AclFault>
     }
 }
 
-/// The tag of a group's entry. Without a name it is the owning group's.
+/// Returns which entry `group` with this name sets. Without a name it is that of the owning group.
 fn group_tag<N: Names>(name: &[u8], names: &N) -> Result<EntryTag, AclFault>
     ensures value { result ≡ named_tag EntryTag.Group (λ id. who.Group id) (N.gid_named names.now) name.now }
-    ensures allowed { IfOk result (λ place. is_entry_tag place ≡ true) }
+    ensures allowed { IfOk result (λ entry_tag. is_entry_tag entry_tag ≡ true) }
 {
     if name.is_empty() {
         return Ok(EntryTag::Group);
@@ -167,23 +182,23 @@ fn group_tag<N: Names>(name: &[u8], names: &N) -> Result<EntryTag, AclFault>
     }
 }
 
-/// A place that takes no name.
-fn nameless_tag(place: EntryTag, name: &[u8]) -> Result<EntryTag, AclFault>
-    requires { is_entry_tag place ≡ true }
-    ensures value { result ≡ nameless_tag place name.now }
-    ensures allowed { IfOk result (λ place. is_entry_tag place ≡ true) }
+/// Returns the tag if the name is empty, for an entry that takes no name.
+fn nameless_tag(entry_tag: EntryTag, name: &[u8]) -> Result<EntryTag, AclFault>
+    requires { is_entry_tag entry_tag ≡ true }
+    ensures value { result ≡ nameless_tag entry_tag name.now }
+    ensures allowed { IfOk result (λ entry_tag. is_entry_tag entry_tag ≡ true) }
 {
     if name.is_empty() {
-        Ok(place)
+        Ok(entry_tag)
     } else {
         Err(AclFault::BadTag)
     }
 }
 
-/// The place that a tag and a name speak of.
+/// Returns which entry a tag and a name set.
 fn entry_tag_of<N: Names>(tag: &[u8], name: &[u8], names: &N) -> Result<EntryTag, AclFault>
     ensures value { result ≡ entry_tag_of (N.uid_named names.now) (N.gid_named names.now) tag.now name.now }
-    ensures allowed { IfOk result (λ place. is_entry_tag place ≡ true) }
+    ensures allowed { IfOk result (λ entry_tag. is_entry_tag entry_tag ≡ true) }
 {
     if is_word(tag, b"user", b"u") {
         user_tag(name, names)
@@ -198,13 +213,13 @@ fn entry_tag_of<N: Names>(tag: &[u8], name: &[u8], names: &N) -> Result<EntryTag
     }
 }
 
-/// The entry that sets a permission at a place.
-fn entry_at(place: EntryTag, perm: Perm) -> Entry
-    requires { is_entry_tag place ≡ true }
-    ensures value { result ≡ entry_at place perm }
+/// Returns the entry with this tag and permission.
+fn entry_at(entry_tag: EntryTag, perm: Perm) -> Entry
+    requires { is_entry_tag entry_tag ≡ true }
+    ensures value { result ≡ entry_at entry_tag perm }
     ensures allowed { is_entry result ≡ true }
 {
-    match place {
+    match entry_tag {
         EntryTag::Owner => Entry::Owner(perm),
         EntryTag::Group => Entry::Group(perm),
         EntryTag::Other => Entry::Other(perm),
@@ -213,21 +228,21 @@ fn entry_at(place: EntryTag, perm: Perm) -> Entry
     }
 }
 
-/// The entry of the parts TAG, NAME and PERM, or the first fault: the tag, then the name, then the
+/// Returns the entry of TAG, NAME and PERM, or the first fault: of the tag, then of the name, then of the
 /// permissions.
 fn three_parts<N: Names>(tag: &[u8], name: &[u8], perm: &[u8], names: &N) -> Result<Entry, AclFault>
     ensures value { let parts = tag.now ∷ name.now ∷ perm.now ∷ [] in
         result ≡ entry_of (N.uid_named names.now) (N.gid_named names.now) parts }
     ensures allowed { IfOk result (λ entry. is_entry entry ≡ true) }
 {
-    let place = entry_tag_of(tag, name, names)?;
+    let entry_tag = entry_tag_of(tag, name, names)?;
     match perm_of(perm) {
-        Some(perm) => Ok(entry_at(place, perm)),
+        Some(perm) => Ok(entry_at(entry_tag, perm)),
         None => Err(AclFault::BadPerm),
     }
 }
 
-/// The entry of the parts of a text without `default`.
+/// Returns the entry of the parts of a text without `default`.
 fn entry_of<N: Names>(parts: &[&[u8]], names: &N) -> Result<Entry, AclFault>
     ensures value { let texts = map (λ part. part.now) parts.now in
         result ≡ entry_of (N.uid_named names.now) (N.gid_named names.now) texts }
@@ -239,7 +254,7 @@ fn entry_of<N: Names>(parts: &[&[u8]], names: &N) -> Result<Entry, AclFault>
     }
 }
 
-/// The entry of the parts of a text, which may begin with `default` or `d`.
+/// Returns the entry of the parts of a text, which may begin with `default` or `d`.
 fn part_entry_of<N: Names>(parts: &[&[u8]], names: &N) -> Result<PartEntry, AclFault>
     ensures value { let texts = map (λ part. part.now) parts.now in
         result ≡ part_entry_of (N.uid_named names.now) (N.gid_named names.now) texts }
@@ -264,7 +279,7 @@ fn part_entry_of<N: Names>(parts: &[&[u8]], names: &N) -> Result<PartEntry, AclF
     }
 }
 
-/// The pieces of a text between the places of a byte.
+/// Splits a text at each occurrence of a byte.
 fn split(alloc: Global, text: &[u8], byte: u8) -> Result<Vec<&[u8]>, AllocError>
     ensures { let pieces = slice_split (λ b. b == byte) text.now in
         IfOk result (λ parts. map (λ part. part.now) parts.items ≡ pieces) }
@@ -272,7 +287,7 @@ fn split(alloc: Global, text: &[u8], byte: u8) -> Result<Vec<&[u8]>, AllocError>
     text.split(|b| *b == byte).collect(alloc)
 }
 
-/// The entry of a text, whose parts stand between colons.
+/// Returns the entry of a text, whose parts are separated by colons.
 fn text_entry_of<N: Names>(alloc: Global, text: &[u8], names: &N) -> Result<PartEntry, AclFault>
     ensures value { Gives result (text_entry_of (N.uid_named names.now) (N.gid_named names.now) text.now) }
     ensures allowed { IfOk result (λ e. is_entry e.entry ≡ true) }

@@ -1,4 +1,4 @@
-//! The parts of an ACL: base entries, named entries and mask (acl(5)), and the mode that they have.
+//! The parts of an ACL: base entries, named entries and mask (acl(5)), and the mode of an object with these parts.
 ghost use Rattle.std.specs.Prelude.{◌≡◌, ◌≤◌, ◌/◌, ◌%◌, true, OnOk, OnErr, IfOk};
 ghost use Rattle.pv_acl.specs.Parts.{part_mask, is_part, mode_of, with_mode, base_of, part_of_mode};
 ghost use Rattle.pv_acl.specs.Parts.{acl_of_mode, is_acl, is_minimal};
@@ -9,27 +9,35 @@ use crate::list::NamedList;
 use crate::perm::Perm;
 use std::alloc::{AllocError, Global};
 
-/// One part of an ACL (acl(5)): the base entries of the owner, the owning group and all others, the named entries, and
-/// the mask if there is one.
+/// One part of an ACL (acl(5)): the base entries, the named entries, and the mask if there is one.
 #[derive(Clone, Drop, PartialEq, Eq)]
 pub struct Part {
+    /// The permissions of the owner.
     pub owner: Perm,
+    /// The permissions of the owning group.
     pub group: Perm,
+    /// The permissions of all others.
     pub other: Perm,
+    /// The explicit mask, if there is one. See `effective_mask`.
     pub mask: Option<Perm>,
+    /// The permissions of further users and groups.
     pub named: NamedList,
 }
 
-/// An ACL: the access part, and for directories the part that new objects in it begin with.
+/// An ACL (acl(5)): an access part, and perhaps a default part.
 #[derive(Clone, Drop, PartialEq, Eq)]
 pub struct Acl {
+    /// The permissions on the object itself.
     pub access: Part,
+    /// The part with which new objects in the directory begin. Only a directory has one.
     pub default_part: Option<Part>,
 }
 
 impl Part {
-    /// The part that a mode alone gives: its base entries, no named entries and no mask. It takes no
-    /// memory.
+    /// Returns the part with the base entries of a mode (inode(7)), without named entries and mask.
+    ///
+    /// Only the 9 permission bits of `mode` count. For example, 0o750 gives `rwx`, `r-x` and `---`. The call does not
+    /// allocate.
     pub fn of_mode(alloc: Global, mode: u16) -> Part
         ensures { result ≡ part_of_mode mode }
     {
@@ -42,7 +50,7 @@ impl Part {
         }
     }
 
-    /// The base entries of a part alone. It takes no memory.
+    /// Returns a part with the same base entries, without named entries and mask. The call does not allocate.
     pub fn base(&self, alloc: Global) -> Part
         ensures { result ≡ base_of self.now }
     {
@@ -55,7 +63,9 @@ impl Part {
         }
     }
 
-    /// Gives a part the base entries of a mode. The named entries stay, and unlike in chmod(2) the mask stays too.
+    /// Sets the base entries to the 9 permission bits of a mode.
+    ///
+    /// Named entries and mask stay. With chmod(2), the group bits would change the mask instead, if there is one.
     pub fn set_base(&mut self, mode: u16)
         ensures { self.new ≡ with_mode mode self.old }
     {
@@ -64,8 +74,10 @@ impl Part {
         self.other = Perm::digit_of(mode);
     }
 
-    /// The mode of an object with this access part: its special bits (SUID 4, SGID 2, sticky 1), then
-    /// the base entries.
+    /// Returns the mode of an object with this access part, as the 12 bits of chmod(2).
+    ///
+    /// `special` has the special bits: 4 is set-user-ID, 2 is set-group-ID, 1 is sticky. The other 9 bits are the base
+    /// entries. Even if there is a mask, the group bits are those of the owning group, and not the mask as in acl(5).
     pub fn mode(&self, special: u8) -> u16
         requires { special ≤ 7 }
         ensures value { result ≡ mode_of special self.now }
@@ -74,7 +86,9 @@ impl Part {
         512 * u16::from(special) + self.owner.times(64) + self.group.times(8) + self.other.times(1)
     }
 
-    /// Puts an entry in place of the one with its tag. After running out of memory the part is as before.
+    /// Sets one entry: it replaces the base entry, the mask, or the named entry for the same user or group.
+    ///
+    /// If there is no such entry yet, it is added. The only error is `AllocError`, and then the part is unchanged.
     pub fn put(&mut self, entry: Entry) -> Result<(), AllocError>
         ensures ok { OnOk result (self.new ≡ put_entry self.old entry) }
         ensures err { OnErr result (self.new ≡ self.old) }
@@ -89,7 +103,7 @@ impl Part {
         Ok(())
     }
 
-    /// A copy of the part.
+    /// Returns a copy of the part. The only error is `AllocError`.
     pub fn copy(&self) -> Result<Part, AllocError>
         ensures { IfOk result (λ copy. copy ≡ self.now) }
     {
@@ -98,7 +112,9 @@ impl Part {
 }
 
 impl Acl {
-    /// The ACL that a mode alone gives. It takes no memory.
+    /// Returns the ACL that a mode alone gives: its base entries, without named entries, mask and default part.
+    ///
+    /// Only the 9 permission bits of `mode` count. The call does not allocate.
     pub fn of_mode(alloc: Global, mode: u16) -> Acl
         ensures { result ≡ acl_of_mode mode }
     {
@@ -108,7 +124,7 @@ impl Acl {
         }
     }
 
-    /// Whether an ACL says no more than a mode: no named entries, no explicit mask and no default
+    /// Returns whether the ACL says no more than a mode: it has no named entries, no explicit mask and no default
     /// part.
     pub fn is_minimal(&self) -> bool
         ensures { result ≡ is_minimal self.now }
@@ -116,7 +132,7 @@ impl Acl {
         self.access.named.is_empty() && self.access.mask.is_none() && self.default_part.is_none()
     }
 
-    /// A copy of the ACL.
+    /// Returns a copy of the ACL. The only error is `AllocError`.
     pub fn copy(&self) -> Result<Acl, AllocError>
         ensures { IfOk result (λ copy. copy ≡ self.now) }
     {
@@ -124,8 +140,10 @@ impl Acl {
     }
 }
 
-/// The mask that holds for a part: the explicit one, otherwise the union of the permissions of the owning
-/// group and of all named entries (acl(5)).
+/// Returns the mask that applies to a part (acl(5)).
+///
+/// It is the explicit mask if there is one. Otherwise it is the union of the permissions of the owning group and of
+/// all named entries.
 pub fn effective_mask(part: &Part) -> Perm
     ensures { result ≡ part_mask part.now }
 {

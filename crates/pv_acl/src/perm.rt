@@ -1,14 +1,16 @@
-//! Permissions, and whom a named entry speaks of.
+//! Permissions, and the user or group of a named entry.
 ghost use Rattle.std.specs.Prelude.{◌≡◌, ◌≤◌, ◌*◌, ◌%◌, bit_or};
 ghost use Rattle.std.specs.Ordering.{is_lt};
 ghost use Rattle.pv_acl.specs.NamedEntries.{who_cmp};
 
 use std::marker::Model;
 
-/// Permissions to read (4), write (2) and execute (1), as a number of at most 7. Clauses see the
-/// number.
+/// A permission: the sum of read (4), write (2) and execute (1).
+///
+/// In contracts, a value is that number, from 0 to 7.
 #[derive(Clone, Copy, PartialEq, Eq)]
 pub struct Perm {
+    /// The sum, from 0 to 7.
     pub bits: u8,
 }
 
@@ -25,7 +27,7 @@ impl Model for Perm {
 }
 
 impl Perm {
-    /// The last octal digit of a number.
+    /// Returns the permission in the lowest three bits of a number.
     pub(crate) fn digit_of(mode: u16) -> Perm
         ensures { result ≡ mode % 8 }
     {
@@ -34,7 +36,7 @@ impl Perm {
         }
     }
 
-    /// The permission as a digit of a mode that stands at this place.
+    /// Returns the permission as a digit of a mode: its number times `place`, which is 1, 8 or 64.
     pub(crate) fn times(self, place: u16) -> u16
         requires { place ≤ 64 }
         ensures value { result ≡ place * self }
@@ -43,7 +45,7 @@ impl Perm {
         place * u16::from(self.bits)
     }
 
-    /// What either of two permissions grants.
+    /// Returns the permission that grants what at least one of the two grants.
     pub fn union(self, other: Perm) -> Perm
         ensures { result ≡ bit_or self other }
     {
@@ -53,16 +55,17 @@ impl Perm {
     }
 }
 
-/// Whom a named entry speaks of: a user or a group, by its ID.
+/// The user or the group of a named entry, by its ID.
 #[derive(Clone, Copy, PartialEq, Eq, PartialOrd, Ord)]
 pub enum Who {
+    /// The user with this ID.
     User(u32),
+    /// The group with this ID.
     Group(u32),
 }
 
 impl Who {
-    /// Whether entries for this one stand before entries for the other: users by ID, then groups by
-    /// ID.
+    /// Returns whether a named entry for `self` comes before one for `other`: users by ID, then groups by ID.
     pub fn is_before(self, other: Who) -> bool
         ensures { result ≡ is_lt (who_cmp self other) }
     {
@@ -70,9 +73,11 @@ impl Who {
     }
 }
 
-/// The permissions of a named user or group.
+/// A named entry (acl(5)): the permissions of one more user or group.
 #[derive(Clone, Copy, PartialEq, Eq)]
 pub struct Named {
+    /// Whose permissions these are.
     pub who: Who,
+    /// The permissions.
     pub perm: Perm,
 }

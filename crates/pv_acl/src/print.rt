@@ -1,4 +1,4 @@
-//! The one text of an ACL.
+//! Prints an ACL as tree images have it. Each ACL has exactly one text.
 ghost use Rattle.std.specs.Prelude.{◌≡◌, ◌++◌, Some, map, filter, fold, string_bytes, OnOk, IfOk, if◌then◌else◌};
 ghost use Rattle.pv_acl.specs.Texts.{perm_text, who_text, named_text, default_text, is_of};
 ghost use Rattle.pv_acl.specs.Texts.{access_texts, default_texts, default_mask_texts, acl_text, or_dash, with_entry};
@@ -10,7 +10,7 @@ use std::alloc::{AllocError, Global};
 use std::fmt;
 
 impl Perm {
-    /// The three characters of a permission.
+    /// Returns three characters for a permission: `r` or `-`, `w` or `-`, `x` or `-`. For example, 5 gives `r-x`.
     pub fn as_str(&self) -> &'static str
         ensures { result.now ≡ perm_text self.now }
     {
@@ -56,9 +56,14 @@ impl fmt::Display for Named {
     }
 }
 
-/// The one text of an ACL, with commas between the entries. First come named users, named groups and the mask of the
-/// access part, then the entries of the default part after `d:`. The text is `-` if there is none of these. The base
-/// entries of the access part stand in the mode.
+/// Prints an ACL as tree images have it: the short text form of acl(5), with one spelling for each ACL.
+///
+/// The entries are separated by commas. First come those of the access part: named users by ID as `u:ID:PERM`,
+/// named groups by ID as `g:ID:PERM`, and an explicit mask as `m::PERM`. Its base entries are left out, because the
+/// mode of the object has them. Then come all entries of the default part, each after `d:`. They are in the order
+/// owner, named users, owning group, named groups, mask, others. The text is `-` if there are no entries.
+///
+/// The only error is `AllocError`. For example, a single named entry that lets user 1000 read gives `u:1000:r--`.
 pub fn print_acl(alloc: Global, acl: &Acl) -> Result<Vec<u8>, AllocError>
     ensures { IfOk result (λ text. text.items ≡ acl_text acl.now) }
 {
@@ -68,7 +73,7 @@ pub fn print_acl(alloc: Global, acl: &Acl) -> Result<Vec<u8>, AllocError>
     or_dash(alloc, text)
 }
 
-/// The text if there is one, otherwise a dash.
+/// Returns the text, or a dash if it is empty.
 fn or_dash(alloc: Global, text: String) -> Result<Vec<u8>, AllocError>
     ensures { IfOk result (λ bytes. bytes.items ≡ or_dash (string_bytes text)) }
 {
@@ -79,7 +84,7 @@ fn or_dash(alloc: Global, text: String) -> Result<Vec<u8>, AllocError>
     }
 }
 
-/// Adds the entries of an access part, without the base entries.
+/// Appends the entries of an access part, without the base entries.
 fn add_access(alloc: Global, text: &mut String, part: &Part) -> Result<(), AllocError>
     ensures { OnOk result (string_bytes text.new ≡ fold with_entry (string_bytes text.old) (access_texts part.now)) }
 {
@@ -90,7 +95,7 @@ fn add_access(alloc: Global, text: &mut String, part: &Part) -> Result<(), Alloc
     Ok(())
 }
 
-/// Adds the entries of a default part, if there is one.
+/// Appends the entries of a default part, if there is one.
 fn add_default(alloc: Global, text: &mut String, part: &Option<Part>) -> Result<(), AllocError>
     ensures { OnOk result (string_bytes text.new ≡ fold with_entry (string_bytes text.old) (default_texts part.now)) }
 {
@@ -100,7 +105,7 @@ fn add_default(alloc: Global, text: &mut String, part: &Option<Part>) -> Result<
     }
 }
 
-/// Adds the entries of a default part.
+/// Appends the entries of a default part.
 fn add_part(alloc: Global, text: &mut String, part: &Part) -> Result<(), AllocError>
     ensures { let texts = default_texts (Some part.now) in
         OnOk result (string_bytes text.new ≡ fold with_entry (string_bytes text.old) texts) }
@@ -113,7 +118,7 @@ fn add_part(alloc: Global, text: &mut String, part: &Part) -> Result<(), AllocEr
     add_tagged(alloc, text, "d:o::", &part.other)
 }
 
-/// Adds the mask of a default part, where it is explicit.
+/// Appends the mask of a default part, if it is explicit.
 fn add_default_mask(alloc: Global, text: &mut String, mask: &Option<Perm>) -> Result<(), AllocError>
     ensures { let texts = default_mask_texts mask.now in
         OnOk result (string_bytes text.new ≡ fold with_entry (string_bytes text.old) texts) }
@@ -124,7 +129,8 @@ fn add_default_mask(alloc: Global, text: &mut String, mask: &Option<Perm>) -> Re
     }
 }
 
-/// Adds the users or else the groups among named entries of a default part.
+/// Appends the named entries of a default part that are for users, or those that are for groups if `users` is
+/// false.
 fn add_chosen(
     alloc: Global,
     text: &mut String,
@@ -140,7 +146,7 @@ fn add_chosen(
     Ok(())
 }
 
-/// Adds an entry of a default part, if it is wanted.
+/// Appends an entry of a default part, if it is wanted.
 fn add_if(alloc: Global, text: &mut String, x: &Named, wanted: bool) -> Result<(), AllocError>
     ensures { let old = string_bytes text.old in
         OnOk result (string_bytes text.new ≡ (if wanted then with_entry old (default_text x.now) else old)) }
@@ -152,7 +158,7 @@ fn add_if(alloc: Global, text: &mut String, x: &Named, wanted: bool) -> Result<(
     }
 }
 
-/// Whether an entry speaks of a user, or else of a group.
+/// Returns whether an entry is for a user, or, if `users` is false, for a group.
 fn is_of(x: &Named, users: bool) -> bool
     ensures { result ≡ is_of users x.now }
 {
@@ -162,7 +168,7 @@ fn is_of(x: &Named, users: bool) -> bool
     }
 }
 
-/// Adds named entries.
+/// Appends named entries.
 fn add_named(alloc: Global, text: &mut String, named: &[Named]) -> Result<(), AllocError>
     ensures { OnOk result (string_bytes text.new ≡ fold with_entry (string_bytes text.old) (map named_text named.now)) }
 {
@@ -172,7 +178,7 @@ fn add_named(alloc: Global, text: &mut String, named: &[Named]) -> Result<(), Al
     Ok(())
 }
 
-/// Adds an entry of a tag and a permission.
+/// Appends an entry of a tag and a permission.
 fn add_tagged(alloc: Global, text: &mut String, tag: &str, perm: &Perm) -> Result<(), AllocError>
     ensures { let entry = tag.now ++ perm_text perm.now in
         OnOk result (string_bytes text.new ≡ with_entry (string_bytes text.old) entry) }
@@ -180,7 +186,7 @@ fn add_tagged(alloc: Global, text: &mut String, tag: &str, perm: &Perm) -> Resul
     add(text, format!(in alloc; "{tag}{perm}")?.as_str())
 }
 
-/// Adds an entry, after a comma if it is not the first.
+/// Appends an entry, after a comma if it is not the first.
 fn add(text: &mut String, entry: &str) -> Result<(), AllocError>
     ensures { OnOk result (string_bytes text.new ≡ with_entry (string_bytes text.old) entry.now) }
 {

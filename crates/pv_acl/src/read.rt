@@ -1,4 +1,4 @@
-//! From the one text of an ACL and a mode back to the ACL.
+//! Reads an ACL from its text in a tree image and the mode of its object.
 ghost use Rattle.std.specs.Prelude.{◌≡◌, ◌≤◌, false, true, ℕ, List, Option, IfOk, IfSome, IfNone};
 ghost use Rattle.pv_acl.specs.declared.part.Acl.{Acl};
 ghost use Rattle.std.specs.Result.{result_ok};
@@ -19,9 +19,13 @@ use crate::part::Acl;
 use crate::print::print_acl;
 use std::alloc::{AllocError, Global};
 
-/// The ACL whose one text is this field, with the base entries of this mode in its access part, and
-/// with a default part only for a directory. Nothing if there is no such ACL, so any other
-/// spelling is refused.
+/// Reads an ACL from its text in a tree image and the mode of its object.
+///
+/// `field` is the text to read. The 9 permission bits of `mode` are the base entries of the access part. `directory`
+/// says whether the object is a directory, since only a directory may have a default part.
+///
+/// Returns `None` if `field` is not exactly the text that `print_acl` gives for some allowed ACL with these base
+/// entries. The only error is `AllocError`. For example, `-` gives the ACL of the mode alone.
 pub fn read_acl(
     alloc: Global,
     field: &[u8],
@@ -40,7 +44,7 @@ pub fn read_acl(
     }
 }
 
-/// What a line makes of an ACL, where the field is its one text.
+/// Returns the ACL that a line makes of `plain`, or `None` if its one text is not `field`.
 fn acl_by(
     alloc: Global,
     field: &[u8],
@@ -64,7 +68,7 @@ fn acl_by(
     }
 }
 
-/// Whether this is the one text of an ACL.
+/// Returns whether `field` is the one text of an ACL.
 fn is_text_of(alloc: Global, field: &[u8], acl: &Acl) -> Result<bool, AllocError>
     ensures { IfOk result (λ same. same ≡ bytes_eq (acl_text acl.now) field.now) }
 {
@@ -72,7 +76,7 @@ fn is_text_of(alloc: Global, field: &[u8], acl: &Acl) -> Result<bool, AllocError
     Ok(text.as_slice() == field)
 }
 
-/// The entries of a field, where it has entries alone.
+/// Returns the entries of a field, or `None` if it is not a list of entries.
 fn line_in(alloc: Global, field: &[u8]) -> Result<Option<AclLine>, AllocError>
     ensures read { let read = acl_line_of decimal_id decimal_id field.now in
         IfOk result (λ line. line ≡ result_ok read) }
@@ -90,7 +94,7 @@ fn line_in(alloc: Global, field: &[u8]) -> Result<Option<AclLine>, AllocError>
     }
 }
 
-/// The lookup of images, where each ID is written in digits.
+/// The lookup for tree images, where every ID is written in digits.
 struct Decimals;
 
 impl Names for Decimals {
@@ -107,7 +111,9 @@ impl Names for Decimals {
     }
 }
 
-/// The ID that a text writes, 0 to 4294967294 without leading zeros, or nothing if it writes none.
+/// Reads an ID from a tree image: 0 to 4294967294. Unlike `written_id`, it takes 65535 too.
+///
+/// The text is a number as `number` reads it. Returns `None` for every other text.
 pub fn decimal_id(text: &[u8]) -> Option<u32>
     ensures value { result ≡ decimal_id text.now }
     ensures small { IfSome result (λ id. id ≤ 4294967294) }

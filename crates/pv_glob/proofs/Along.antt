@@ -1,5 +1,5 @@
 -- Going along a component and a name once, with the last `*` as the only place to return to, finds what the recursion on both finds.
-use Rattle.std.proofs.Common.{◌≡◌, ℕ, ◌+◌, ◌-◌, ◌<◌, ◌≤◌, Bool, true, false, ◌&&◌, ◌||◌, ◌==◌, List, [], ◌∷◌, ◌++◌, length, Option, Some, None, refl, sym, ap, ◌∙◌, arith, append_assoc, length-append, suc, subst, Bor, get_or, take, drop}
+use Rattle.std.proofs.Common.{◌≡◌, ℕ, ◌+◌, ◌-◌, ◌<◌, ◌≤◌, Bool, true, false, ◌||◌, ◌==◌, List, [], ◌∷◌, ◌++◌, length, Option, Some, None, refl, sym, ap, ◌∙◌, arith, append_assoc, length-append, suc, subst, Bor, get_or, take, drop}
 use Rattle.std.proofs.Math.Seq.{take-length}
 use Rattle.std.proofs.lemmas.Bool.Decides.{nat_tests}
 use Rattle.std.proofs.lemmas.Bool.{and_parts}
@@ -28,25 +28,6 @@ first_of_other (Many ∷ elements) b name e = rw (first_of_other elements b name
 first_of_other (Byte c ∷ elements) b name e = refl
 first_of_other (Any ∷ elements) b name e = rw e
 first_of_other (OneOf set ∷ elements) b name e = rw e
-
--- what follows the `*`s with which elements begin
-abbrev pub behind_stars : List Element → List Element
-behind_stars [] = []
-behind_stars (Many ∷ elements) = behind_stars elements
-behind_stars (element ∷ elements) = element ∷ elements
-
--- whether elements match a name that is a period and then this rest
-abbrev pub period_matches : List Element → List ℕ → Bool
-period_matches [] name = false
-period_matches (Byte c ∷ elements) name = (46 == c) && rest_matches elements name
-period_matches (element ∷ elements) name = false
-
-pub first_of_period : (elements : List Element) (name : List ℕ) → name_matches elements true (46 ∷ name) ≡ period_matches (behind_stars elements) name
-first_of_period [] name = refl
-first_of_period (Many ∷ elements) name = or-false _ ∙ first_of_period elements name
-first_of_period (Byte c ∷ elements) name = refl
-first_of_period (Any ∷ elements) name = refl
-first_of_period (OneOf set ∷ elements) name = refl
 
 -- ---- the last `*`
 

@@ -1,5 +1,5 @@
 -- How a word began decides whether it may be a name.
-use Rattle.std.proofs.Common.{◌≡◌, ℕ, Bool, true, false, not, ◌&&◌, ◌||◌, ◌==◌, nat_eq, nat_le, List, [], ◌∷◌, length, take, codes, refl, sym, ap, ◌∙◌, arith, if◌then◌else◌}
+use Rattle.std.proofs.Common.{◌≡◌, ℕ, Bool, true, false, not, ◌&&◌, ◌||◌, ◌==◌, nat_eq, nat_le, List, [], ◌∷◌, length, take, refl, sym, ap, ◌∙◌, arith, if◌then◌else◌}
 use Rattle.std.specs.List.{list_all}
 use Rattle.std.specs.Cmp.Lexicographic.{pointwise}
 use Rattle.std.proofs.lemmas.Bool.Decides.{nat_tests}
@@ -84,13 +84,6 @@ on_nothing [] = refl
 on_nothing (b ∷ word) = by_byte (is_name_byte b) (b == 46) word Dot (on_dot word)
 
 -- ---- what is fine is neither `.` nor `..` nor a staging name
-
-staging_is : (word : List ℕ) → is_staging word ≡ pointwise nat_eq (codes ".#tf-") (take 5 word)
-staging_is word = refl
-
--- whether bytes begin with others
-begins : List ℕ → List ℕ → Bool
-begins needle word = pointwise nat_eq needle (take (length needle) word)
 
 fine_tf : (word : List ℕ) → fine DotHashTf word ≡ not (pointwise nat_eq (45 ∷ []) (take 1 word))
 fine_tf [] = refl

@@ -102,18 +102,9 @@ comma_step pairs pair next words (component ∷ []) same more = none_left pairs 
 comma_step pairs pair next words (inner ∷ outer ∷ around) same more =
     rw (same, more, joined-empty_first inner.words, joined-empty_second words, append_assoc pair.done words (inner.words ++ inner.others)) refl
 
-pub comma_outside : (words : List (List Element)) (rests : List Rest) → completed [] (map (λ word. word ++ Byte 44 ∷ []) words) rests ≡ completed [] words (with_comma rests)
-comma_outside words [] = refl
-comma_outside words (component ∷ []) = element_step [] words (Byte 44) (component ∷ [])
-comma_outside words (inner ∷ outer ∷ around) = refl
-
 pub close_step : (pairs : List Pair) (pair : Pair) (words done : List (List Element)) (rests : List Rest) → done ≡ pair.done ++ words → completed pairs (joined pair.before done) rests ≡ completed (pair ∷ pairs) words (with_close rests)
 close_step pairs pair words done [] more = none_left pairs (joined pair.before done)
 close_step pairs pair words done (rest ∷ around) more = rw (more, joined-empty_second words, append-nil words) refl
-
-pub close_outside : (words : List (List Element)) (rests : List Rest) → completed [] words (with_close rests) ≡ None
-close_outside words [] = refl
-close_outside words (rest ∷ around) = refl
 
 -- ---- how many words there are
 
@@ -216,9 +207,6 @@ beyond_means most old around pair words done places was more l =
     let lower : most < length (joined pair.before done) = rw (length-joined pair.before done, mul_comm (length pair.before) (length done)) many in
     ap (within most) (sym (close_means old around pair words done (joined pair.before done) (rests_of places) was more refl))
     ∙ too_many most (reverse around) (joined pair.before done) (rests_of places) (rests_worded places) lower
-
-pub outside_means : (most : ℕ) (opened : List Pair) (words : List (List Element)) (rests : List Rest) → opened ≡ [] → within most (completed (reverse opened) words (with_close rests)) ≡ None
-outside_means most opened words rests none = rw none (ap (within most) (close_outside words rests))
 
 pub finish_means : (opened : List Pair) (words : List (List Element)) → length opened ≡ 0 → Some words ≡ completed (reverse opened) words (rests_of [])
 finish_means [] words none = ap Some (sym (joined-empty_second words))

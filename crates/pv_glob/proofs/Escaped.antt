@@ -14,7 +14,7 @@ use Rattle.pv_glob.specs.declared.pattern_fault.PatternFault.{PatternFault}
 use Rattle.pv_glob.specs.declared.pattern_fault.PatternFault.TheVariants as fault
 use Rattle.pv_glob.specs.Escaping.{is_special, escaped_byte, escaped, escaped_path}
 use Rattle.pv_glob.specs.Matching.{literal_of}
-use Rattle.pv_glob.specs.Elements.{element_at, elements_of, has_fault_at}
+use Rattle.pv_glob.specs.Elements.{elements_of, has_fault_at}
 use Rattle.pv_glob.specs.Braces.{Rest, expansions_of, rests_of, whole, with_place}
 use Rattle.pv_glob.specs.Parsing.{component_fault, components_of, first_fault, has_fault, name_fault, pattern_of, plains_of, words_of}
 
@@ -58,13 +58,6 @@ elements_step b bytes = by_test (is_special b) refl
     by_test : (t : Bool) → is_special b ≡ t → elements_of (escaped (b ∷ bytes)) ≡ (escaped_byte b ++ escaped bytes) ∷ elements_of (escaped bytes)
     by_test true e = rw e refl
     by_test false e = let o = ordinary b e in rw (e, o.backslash, o.bracket) refl
-
-element_is : (b : ℕ) (rest : List ℕ) → element_at (escaped_byte b ++ rest) ≡ Byte b
-element_is b rest = by_test (is_special b) refl
-  where
-    by_test : (t : Bool) → is_special b ≡ t → element_at (escaped_byte b ++ rest) ≡ Byte b
-    by_test true e = rw e refl
-    by_test false e = let o = ordinary b e in rw (e, o.backslash, o.star, o.mark, o.bracket) refl
 
 -- before a place without braces stands one word, and no other
 abbrev alone : List Element → List Rest

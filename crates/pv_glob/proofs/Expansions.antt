@@ -7,16 +7,13 @@ use Rattle.std.specs.Cmp.Lexicographic.{lists_total}
 use Rattle.std.proofs.lemmas.Cmp.{then_total, on_total, upto}
 use Rattle.std.proofs.lemmas.List.{get_or_default}
 use Rattle.std.proofs.lemmas.List.Folds.{list_any_more}
-use Rattle.std.proofs.Math.Bool.{or-true, or-false, and-false}
+use Rattle.std.proofs.Math.Bool.{or-true, or-false}
 use Rattle.std.proofs.lemmas.Bool.{or_cases}
 use Rattle.pv_path.specs.Paths.{Path, has_names}
 use Rattle.pv_glob.specs.declared.element.Element.{Element}
 use Rattle.pv_glob.specs.Meeting.{are_met, in_reach, is_met, reached}
 use Rattle.pv_glob.specs.Words.{Finds, IsFirst, earlier_of, rank, shared_cmp}
 use Rattle.pv_glob.proofs.Shortlex.{shortlex_total, not_both}
-
-abbrev Never : Type 0
-Never = ◌≡◌ {A = Bool} false true
 
 shared_total : IsTotalOrder shared_cmp
 shared_total = then_total (on_total length nat_cmp_total) (lists_total (on_total (map rank) shortlex_total))
@@ -26,14 +23,6 @@ shared_total = then_total (on_total length nat_cmp_total) (lists_total (on_total
 pub finds_from : (test : Path → Bool) (found : Option Path) → (IsNone found → (path : Path) → test path ≡ false) → IfSome found (IsFirst shared_cmp test) → Finds test found
 finds_from test None none first = none refl
 finds_from test (Some path) none first = first
-
-pub finds_none : (test : Path → Bool) (found : Option Path) → Finds test found → IsNone found → (path : Path) → test path ≡ false
-finds_none test None finds none = finds
-finds_none test (Some path) finds none = cc
-
-pub finds_first : (test : Path → Bool) (found : Option Path) → Finds test found → IfSome found (IsFirst shared_cmp test)
-finds_first test None finds = tt
-finds_first test (Some path) finds = finds
 
 -- tests that answer the same have the same first path
 pub finds_same : (p q : Path → Bool) (found : Option Path) → ((path : Path) → p path ≡ q path) → Finds p found → Finds q found
@@ -90,13 +79,6 @@ module _ (a_below b_below : Bool) where
   -- two expansions alone
   pub plain_pair : (a b : List (List Element)) (path : Path) → is_met a a_below b b_below path ≡ are_met (a ∷ []) a_below (b ∷ []) b_below path
   plain_pair a b path = sym (ap (λ t. has_names path && t && (in_reach b b_below path || false)) (or-false (in_reach a a_below path)) ∙ ap (λ t. has_names path && in_reach a a_below path && t) (or-false (in_reach b b_below path)))
-
-  -- no expansions
-  pub none_right : (a : List (List (List Element))) (path : Path) → are_met a a_below [] b_below path ≡ false
-  none_right a path = and-false (has_names path && reached a a_below path)
-
-  pub none_left : (b : List (List (List Element))) (path : Path) → are_met [] a_below b b_below path ≡ false
-  none_left b path = ap (λ t. t && reached b b_below path) (and-false (has_names path))
 
   -- one expansion more
   more_right : (a b : List (List (List Element))) (i : ℕ) → i < length b → (path : Path)

@@ -113,9 +113,6 @@ module _ (found : Found) (at : ℕ) (word : List ℕ) (inside : at < length foun
             ap (word_at (noted found at word)) s ∙ here ∙ ap (λ (o : Option (List ℕ)). Some (earlier o word)) was ∙ ap Some (shorter_stays ranks word less)
         by (inr n) = there q n ∙ ahead.keeps q ranks e
 
-    New : List ℕ → ℕ → List ℕ → Type 0
-    New list q ranks = (length ranks ≡ depth + 1) × Leads machine ranks q × Contains list q
-
     more : (q : ℕ) (ranks : List ℕ) → (word_at from q ≡ Some ranks) ⊎ ((length ranks ≡ depth + 1) × Leads machine ranks q × Contains next q)
         → (word_at from q ≡ Some ranks) ⊎ ((length ranks ≡ depth + 1) × Leads machine ranks q × Contains (listed found next at) q)
     more q ranks (inl e) = inl e

@@ -1,15 +1,10 @@
 -- The order of words and of paths, place by place.
-use Rattle.std.proofs.Common.{◌≡◌, ℕ, ◌+◌, ◌<◌, List, [], ◌∷◌, length, map, drop, get_or, refl, ap, ◌∙◌}
+use Rattle.std.proofs.Common.{◌≡◌, ℕ, List, [], ◌∷◌, length, map, refl, ap, ◌∙◌}
 use Rattle.std.specs.Ordering.{nat_cmp, on, ordering_then}
 use Rattle.std.specs.declared.cmp.Ordering.{Ordering}
 use Rattle.std.specs.Cmp.Lexicographic.{slice_cmp}
-use Rattle.std.proofs.lemmas.List.{drop_more, length-map}
+use Rattle.std.proofs.lemmas.List.{length-map}
 use Rattle.pv_glob.specs.Words.{rank, word_cmp}
-
-module _ {X : Type 0} (order : X → X → Ordering) (d : X) (xs ys : List X) (i : ℕ) (left : i < length xs) (right : i < length ys) where
-  -- the first elements decide
-  pub first_decides : slice_cmp order (drop i xs) (drop i ys) ≡ ordering_then (order (get_or xs i d) (get_or ys i d)) (slice_cmp order (drop (i + 1) xs) (drop (i + 1) ys))
-  first_decides = ap (λ (zs : List X). slice_cmp order zs (drop i ys)) (drop_more xs i d left) ∙ ap (λ (zs : List X). slice_cmp order (get_or xs i d ∷ drop (i + 1) xs) zs) (drop_more ys i d right)
 
 -- what is compared may be read off the elements
 slice_cmp-map : {X Y : Type 0} (f : X → Y) (order : Y → Y → Ordering) (xs ys : List X) → slice_cmp order (map f xs) (map f ys) ≡ slice_cmp (on f order) xs ys

@@ -1,5 +1,5 @@
 -- The parts of a text one after another, and how far a bracket goes.
-use Rattle.std.proofs.Common.{◌≡◌, ℕ, zero, suc, ◌+◌, ◌-◌, ◌<◌, ◌≤◌, Bool, true, false, ◌==◌, List, [], ◌∷◌, ◌++◌, map, length, drop, get_or, Option, Some, None, refl, sym, ap, ◌∙◌, arith, append_assoc}
+use Rattle.std.proofs.Common.{◌≡◌, ℕ, zero, suc, ◌+◌, ◌-◌, ◌<◌, ◌≤◌, Bool, true, false, ◌==◌, List, [], ◌∷◌, ◌++◌, length, drop, get_or, Option, Some, None, refl, sym, ap, ◌∙◌, arith, append_assoc}
 use Rattle.std.specs.List.{list_any, flat_map}
 use Rattle.std.specs.Option.{option_map}
 use Rattle.std.proofs.lemmas.List.{append-nil, length-drop}
@@ -93,13 +93,6 @@ searching_found text (b ∷ rest) n s some is =
 pub searching_within : (text rest : List ℕ) (n : ℕ) → Searching text rest n → 0 < length rest → n < length text
 searching_within text rest n s some = let counts = s.counts in omega arith
 
-pub searching_open : (text rest : List ℕ) (n : ℕ) → Searching text rest n → 0 < length rest → (get_or rest 0 0 ≡ 93 → ⊥) → token_length rest ≡ None → None ≡ body_length text
-searching_open text [] n s some other is = absurd (omega arith)
-searching_open text (b ∷ rest) n s some other is =
-    let test : (b == 93) ≡ false = grind (arith, nat_tests) in
-    let one : length_to_end 0 (b ∷ rest) ≡ None = rw (test, is) refl in
-    sym (ap (option_map (λ m. m + n)) one) ∙ s.finds
-
 -- ---- one turn of a loop over the parts of a text
 
 module _ (part_length : List ℕ → ℕ) where
@@ -116,12 +109,6 @@ module _ (part_length : List ℕ → ℕ) where
   flat_step given made more whole text next k some positive is behind added e =
       let first = places_step part_length text some (let p : 0 < part_length text = omega arith in p) in
       rw (added, behind, is) (append_assoc made (given text) (flat_map given (places part_length 0 (drop (part_length text) text))) ∙ sym (ap (λ (ps : List (List ℕ)). made ++ flat_map given ps) first) ∙ e)
-
-  pub map_step : {A : Type 0} (given : List ℕ → A) (made more whole : List A) (text next : List ℕ) (k : ℕ) → 0 < length text → 0 < k → k ≡ part_length text → next ≡ drop k text → more ≡ made ++ given text ∷ []
-      → made ++ map given (places part_length 0 text) ≡ whole → more ++ map given (places part_length 0 next) ≡ whole
-  map_step given made more whole text next k some positive is behind added e =
-      let first = places_step part_length text some (let p : 0 < part_length text = omega arith in p) in
-      rw (added, behind, is) (append_assoc made (given text ∷ []) (map given (places part_length 0 (drop (part_length text) text))) ∙ sym (ap (λ (ps : List (List ℕ)). made ++ map given ps) first) ∙ e)
 
   -- behind the last part all is told
   pub any_end : (test : List ℕ → Bool) (rest : List ℕ) (whole : Bool) → length rest < 1 → list_any test (places part_length 0 rest) ≡ whole → false ≡ whole

@@ -1,17 +1,11 @@
 -- Runs of bytes tell where each byte leads.
-use Rattle.std.proofs.Common.{◌≡◌, ◌⊎◌, ℕ, ◌+◌, ◌<◌, ◌≤◌, inl, inr, Bool, true, false, not, take, ◌&&◌, ◌==◌, cond, List, [], ◌∷◌, ◌++◌, length, map, filter, nat_lt, Option, Some, None, option_map, refl, sym, ap, ◌∙◌, subst, arith, if◌then◌else◌}
+use Rattle.std.proofs.Common.{◌≡◌, ◌⊎◌, ℕ, ◌+◌, ◌<◌, ◌≤◌, inl, inr, Bool, true, false, take, cond, List, [], ◌∷◌, ◌++◌, length, map, filter, nat_lt, Option, Some, None, option_map, refl, sym, ap, ◌∙◌, subst, arith, if◌then◌else◌}
 use Rattle.std.proofs.lemmas.List.{map-append, append_assoc, append-nil, take_at}
 use Rattle.std.proofs.lemmas.List.Elements.{filter-append, All-push, All-append, All-nil, All-cons, All-same, All-take, All-contains, Contains-push}
-use Rattle.std.proofs.lemmas.Bool.{cases_eq}
 use Rattle.std.proofs.lemmas.Bool.Decides.{nat_tests}
 use Rattle.std.specs.Option.{option_to_list}
-use Rattle.pv_glob.specs.declared.element.Element.{Element}
 use Rattle.pv_glob.specs.declared.moves.Move.{Move}
-use Rattle.pv_glob.specs.declared.beginning.Beginning.{Beginning}
-use Rattle.pv_glob.specs.declared.beginning.Beginning.TheVariants.{Nothing, Dot, TwoDots, DotHash, DotHashT, DotHashTf, Other}
 use Rattle.pv_glob.specs.Machines.{AllInside, goes_by, targets}
-use Rattle.pv_path.specs.Names.{is_name_byte}
-use Rattle.pv_glob.specs.Pairs.{may_follow, target}
 
 pub targets-append : (xs ys : List Move) (b : ℕ) → targets (xs ++ ys) b ≡ targets xs b ++ targets ys b
 targets-append xs ys b = ap (map (λ (m : Move). m.to)) (filter-append (goes_by b) xs ys) ∙ map-append (λ (m : Move). m.to) (filter (goes_by b) xs) (filter (goes_by b) ys)
@@ -27,20 +21,6 @@ pub record Running (t : ℕ → Option ℕ) (places : ℕ) (n : ℕ) (old moves 
   pub inside : AllInside places old → AllInside places (moves ++ option_to_list run)
 
 module _ (t : ℕ → Option ℕ) (places : ℕ) where
-  below_one : t 0 ≡ None → (b : ℕ) → told_below t 1 b ≡ []
-  below_one e b = elim (cases_eq b 0) [
-    | inl z ↦ (let first : told_below t 1 b ≡ option_to_list (t b) = (let l : nat_lt b 1 ≡ true = grind (arith, nat_tests) in ap (λ (x : Bool). if x then option_to_list (t b) else []) l) in
-        first ∙ ap (λ x. option_to_list (t x)) z ∙ ap option_to_list e)
-    | inr n ↦ (let l : nat_lt b 1 ≡ false = grind (arith, nat_tests) in ap (λ (x : Bool). if x then option_to_list (t b) else []) l)
-  ]
-
-  pub running_start : (old : List Move) → t 0 ≡ None → Running t places 1 old old None
-  running_start old e = record {
-    stated = λ b. ap (λ x. targets x b) (append-nil old) ∙ sym (append-nil (targets old b)) ∙ ap (λ x. targets old b ++ x) (sym (below_one e b));
-    ends = λ r h. absurd (let differ : ◌≡◌ {A = Option Move} None (Some r) = h in cc);
-    inside = λ all. subst (AllInside places) (sym (append-nil old)) all;
-  }
-
   abbrev tells : Move → ℕ → List ℕ
   tells r b = targets (r ∷ []) b
 
@@ -148,35 +128,9 @@ module _ (t : ℕ → Option ℕ) (places : ℕ) where
         inside None below = All-nil (λ (m : Move). m.to < places)
         inside (Some to) below = All-cons (λ (m : Move). m.to < places) (record { low = n; high = m; to = to }) [] (below to refl) (All-nil (λ (m : Move). m.to < places))
 
-  -- after the last byte the moves tell where each byte leads
-  pub running_ends : (old moves : List Move) (run : Option Move) → Running t places 256 old moves run → ((b : ℕ) → 256 ≤ b → t b ≡ None) → (b : ℕ) → targets (moves ++ option_to_list run) b ≡ targets old b ++ option_to_list (t b)
-  running_ends old moves run was none b = was.stated b ∙ ap (λ x. targets old b ++ x) (by (nat_lt b 256) refl)
-    where
-      by : (x : Bool) → nat_lt b 256 ≡ x → (if x then option_to_list (t b) else []) ≡ option_to_list (t b)
-      by true e = refl
-      by false e = ap option_to_list (sym (none b (let l : 256 ≤ b = grind (arith, nat_tests) in l)))
-
 -- the same for moves and a run that are the same
 pub running_same : (t : ℕ → Option ℕ) (places n : ℕ) (old moves moves' : List Move) (run run' : Option Move) → moves' ≡ moves → run' ≡ run → Running t places n old moves run → Running t places n old moves' run'
 running_same t places n old moves moves' run run' m r was =
     subst (λ (x : List Move). Running t places n old x run') (sym m) (subst (λ (x : Option Move). Running t places n old moves x) (sym r) was)
 
 -- no name has other bytes than 1 to 255
-module _ (a b : List Element) (begun : Beginning) (i j : ℕ) where
-  no_follow : (c : ℕ) → is_name_byte c ≡ false → (s : Beginning) → may_follow s c ≡ false
-  no_follow c e Nothing = e
-  no_follow c e Dot = e
-  no_follow c e TwoDots = e
-  no_follow c e DotHash = e
-  no_follow c e DotHashT = e
-  no_follow c e DotHashTf = ap (λ x. x && not (c == 45)) e
-  no_follow c e Other = e
-
-  none_of : (c : ℕ) → is_name_byte c ≡ false → target a b begun i j c ≡ None
-  none_of c e = rw (no_follow c e begun)
-
-  pub target-nul : target a b begun i j 0 ≡ None
-  target-nul = none_of 0 refl
-
-  pub target-above : (c : ℕ) → 256 ≤ c → target a b begun i j c ≡ None
-  target-above c l = none_of c (let e : is_name_byte c ≡ false = grind (arith, nat_tests) in e)

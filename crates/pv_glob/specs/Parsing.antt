@@ -1,4 +1,4 @@
--- How a text spells a pattern (glob(7), and the brace expansion of bash(1)), and what is wrong where it spells none.
+-- The pattern that a text spells (glob(7), and the brace expansion of bash(1)). If it spells none, its first fault.
 use Rattle.std.specs.Prelude.{◌≡◌, ℕ, ◌*◌, Bool, false, not, ◌||◌, ◌==◌, nat_le, nat_lt, List, [], ◌∷◌, map, filter, find, length, Option, Some, None, unwrap_or, Result, Ok, Err, if◌then◌else◌}
 use Rattle.std.specs.List.{list_any, slice_split}
 use Rattle.std.specs.Option.{option_map_or}
@@ -13,30 +13,31 @@ use Rattle.pv_glob.specs.Braces.{expansions_of, joined}
 
 -- ---- components
 
--- whether the braces of a component are balanced, and it and the components before it, which have `before` expansions, have at most 256 together
+-- Whether the braces of a component are balanced, and there are at most 256 expansions so far. The components before
+-- it have `before` expansions together.
 abbrev pub is_expanded : ℕ → List ℕ → Bool
 is_expanded before component = option_map_or (λ words. nat_le (before * length words) 256) (expansions_of component) false
 
--- whether a component has this fault
+-- Whether a component has this fault.
 abbrev pub has_fault : ℕ → List ℕ → PatternFault → Bool
 has_fault before component fault.Brace = list_any (has_fault_at fault.Brace) (elements_of component) || not (is_expanded before component)
 has_fault before component f = list_any (has_fault_at f) (elements_of component)
 
--- the fault of a component: the first of these that it has
+-- The fault of a component. If it has several, the first of this list counts.
 abbrev pub component_fault : ℕ → List ℕ → Option PatternFault
 component_fault before component =
     find (has_fault before component)
     (fault.UnclosedBracket ∷ fault.BadRange ∷ fault.BadClass ∷ fault.Brace ∷ fault.TrailingBackslash ∷ [])
 
--- the expansions of a component without a fault
+-- The expansions of a component without a fault.
 abbrev pub words_of : List ℕ → List (List Element)
 words_of component = unwrap_or (expansions_of component) []
 
--- the expansions of a component, or its fault
+-- The expansions of a component, or its fault.
 abbrev pub component_of : ℕ → List ℕ → Result (List (List Element)) PatternFault
 component_of before component = option_map_or Err (component_fault before component) (Ok (words_of component))
 
--- what is wrong with a component as a name of a path
+-- What is wrong with a component as a name of a path: it is `.` or `..`, or it begins as staging names do.
 abbrev pub name_fault : List ℕ → Option PatternFault
 name_fault component =
     if is_dots component then Some fault.DotComponent
@@ -45,27 +46,29 @@ name_fault component =
 
 -- ---- texts
 
--- what stands between the slashes of a text; nothing may stand between two slashes
+-- The components of a text, between its slashes. Empty ones are left out.
 abbrev pub components_of : List ℕ → List (List ℕ)
 components_of text = filter (λ component. nat_lt 0 (length component)) (slice_split (λ b. b == 47) text)
 
--- the first fault that some component has
+-- The fault of the first component that has one.
 abbrev pub first_fault : (List ℕ → Option PatternFault) → List (List ℕ) → Option PatternFault
 first_fault fault_of [] = None
 first_fault fault_of (component ∷ components) = option_map_or Some (fault_of component) (first_fault fault_of components)
 
--- the expansions of components, of which those before have `before`, or the first fault of a component
+-- The expansions of these components together, or the fault of the first faulty one. The components before them have
+-- `before` expansions.
 abbrev pub plains_of : ℕ → List (List ℕ) → Result (List (List (List Element))) PatternFault
 plains_of before [] = Ok ([] ∷ [])
 plains_of before (component ∷ components) =
     option_map_or Err (component_fault before component)
     (result_map_both (joined (map (λ word. word ∷ []) (words_of component))) (λ f. f) (plains_of (before * length (words_of component)) components))
 
--- the pattern of these components, or the fault: first that of a name, and then that of a component
+-- The pattern of these components, or their fault. A fault of any component as a name comes before the other faults.
 abbrev pub pattern_with : List (List ℕ) → Result (List (List (List Element))) PatternFault
 pattern_with components = option_map_or Err (first_fault name_fault components) (plains_of 1 components)
 
--- the pattern that a text spells, as the list of its expansions, or its first fault
+-- The pattern that a text spells, as the list of its expansions, or its first fault. The first of these counts: no
+-- slash at the beginning, a NUL byte, more than 4,095 bytes, the fault of the components.
 abbrev pub pattern_of : List ℕ → Result (List (List (List Element))) PatternFault
 pattern_of text =
     if begins_with_slash text then
@@ -74,7 +77,7 @@ pattern_of text =
     else pattern_with (components_of text)
     else Err fault.NotAbsolute
 
--- what a call answered is what the definition gives, unless memory ran out
+-- The answer of a call is what the definition gives. Only the answer that memory ran out is always allowed.
 abbrev pub Gives : {A : Type 0} → Result A PatternFault → Result A PatternFault → Type 0
 Gives (Ok value) read = read ≡ Ok value
 Gives (Err fault.Memory) read = Unit {0}

@@ -1,18 +1,18 @@
-//! Bytes that lead to the same place, told without asking of each.
+//! Finds runs of bytes that lead to the same state, without a test of each byte.
 ghost use Rattle.std.specs.Prelude.{◌≡◌, ◌≢◌, ◌⊎◌, ◌≤◌, ℕ, true, false, IfSome};
 ghost use Rattle.pv_glob.specs.declared.element.Element.TheVariants.{Byte};
 ghost use Rattle.pv_glob.specs.Marked.{is_marked, is_wild};
 
 use crate::element::Element;
 
-/// Whether an element is `*` or `?`.
+/// Returns whether an element is `*` or `?`.
 pub(crate) fn is_wild(element: &Element) -> bool
     ensures { result ≡ is_wild element.now }
 {
     matches!(element, Element::Any | Element::Many)
 }
 
-/// The byte that one of two elements stands for, if one of them stands for one byte.
+/// Returns the byte of one of two elements that matches this byte alone, if there is such an element.
 pub(crate) fn written_in(left: &Element, right: &Element) -> Option<u8>
     ensures { IfSome result (λ written. (left.now ≡ Byte written) ⊎ (right.now ≡ Byte written)) }
 {
@@ -23,7 +23,7 @@ pub(crate) fn written_in(left: &Element, right: &Element) -> Option<u8>
     }
 }
 
-/// The last of the bytes from one on that are all a written byte, or none of them.
+/// Returns the last byte of a run from `byte` on that either is `written` alone or does not have `written`.
 pub(crate) fn last_beside(written: u8, byte: u8) -> u8
     ensures later { byte ≤ result }
     ensures alike { (b : ℕ) → byte ≤ b → b ≤ result → (b ≡ byte) ⊎ ((b ≢ written) × (byte ≢ written)) }
@@ -37,7 +37,7 @@ pub(crate) fn last_beside(written: u8, byte: u8) -> u8
     }
 }
 
-/// The last of the bytes from one on that `*` and `?` do not tell apart, however a word began.
+/// Returns the last byte of a run from `byte` on that `*` and `?` treat alike, whatever bytes came before.
 pub(crate) fn last_unmarked(byte: u8) -> u8
     ensures later { byte ≤ result }
     ensures alike { (b : ℕ) → byte ≤ b → b ≤ result → (b ≡ byte) ⊎ ((is_marked b ≡ false) × (is_marked byte ≡ false)) }

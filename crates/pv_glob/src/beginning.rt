@@ -1,9 +1,10 @@
-//! How a word began, as far as it decides whether it may be a name.
+//! How a string began that an automaton reads: only what decides whether the string can be a name.
 ghost use Rattle.std.specs.Prelude.{◌≡◌, ◌<◌, ◌≤◌};
 ghost use Rattle.pv_path.specs.Names.{is_name_byte};
 ghost use Rattle.pv_glob.specs.Pairs.{beginning_after, beginning_of, code_of, is_nothing, may_end, may_follow};
 
-/// How a word began.
+/// How a string began that an automaton reads: only what decides whether the string can be a name that is not a staging
+/// name.
 #[derive(Clone, Copy, PartialEq, Eq)]
 pub enum Beginning {
     /// No byte came yet.
@@ -18,14 +19,14 @@ pub enum Beginning {
     DotHashT,
     /// `.#tf`
     DotHashTf,
-    /// With other bytes, so that any may follow.
+    /// Any other bytes, after which every byte of a name may follow.
     Other,
 }
 
-/// How many beginnings there are.
+/// The number of beginnings.
 pub(crate) const BEGINNINGS: u32 = 7;
 
-/// Whether a name may have a byte.
+/// Returns whether a name may have this byte: it is neither NUL nor a slash.
 fn is_name_byte(byte: u8) -> bool
     ensures { result ≡ is_name_byte byte }
 {
@@ -33,7 +34,7 @@ fn is_name_byte(byte: u8) -> bool
 }
 
 impl Beginning {
-    /// The beginning with a number counted from 0.
+    /// Returns the beginning with a number counted from 0.
     pub(crate) fn numbered(code: u32) -> Beginning
         ensures { result ≡ beginning_of code }
     {
@@ -48,7 +49,7 @@ impl Beginning {
         }
     }
 
-    /// The number of the beginning.
+    /// Returns the number of the beginning, counted from 0.
     pub(crate) fn number(self) -> u32
         ensures value { result ≡ code_of self }
         ensures inside { result < 7 }
@@ -64,7 +65,7 @@ impl Beginning {
         }
     }
 
-    /// The beginning with one more byte.
+    /// Returns the beginning after one more byte.
     pub(crate) fn followed_by(self, byte: u8) -> Beginning
         ensures { result ≡ beginning_after self byte }
     {
@@ -95,7 +96,7 @@ impl Beginning {
         }
     }
 
-    /// Whether a byte may follow in a name that is not a staging name.
+    /// Returns whether this byte may follow in a name that is not a staging name.
     pub(crate) fn may_precede(self, byte: u8) -> bool
         ensures { result ≡ may_follow self byte }
     {
@@ -105,7 +106,7 @@ impl Beginning {
         }
     }
 
-    /// Whether a name may be no longer.
+    /// Returns whether a word that began so may be a name without more bytes.
     pub(crate) fn may_end(self) -> bool
         ensures { result ≡ may_end self }
     {
@@ -115,7 +116,7 @@ impl Beginning {
         }
     }
 
-    /// Whether no byte came yet.
+    /// Returns whether no byte came yet.
     pub(crate) fn is_nothing(self) -> bool
         ensures { result ≡ is_nothing self }
     {

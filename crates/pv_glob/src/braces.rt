@@ -1,4 +1,5 @@
-//! Braces in a component of a pattern: the words that come of choosing one alternative for each pair.
+//! Expands the braces of a component. For each choice of one alternative in each pair, the result has one component
+//! without braces.
 ghost use Rattle.std.specs.Prelude.{◌≡◌, ℕ, ◌<◌, List, [], ◌∷◌, length, None, IfOk, IfSome, IfNone};
 ghost use Rattle.pv_glob.specs.Elements.{elements_of};
 ghost use Rattle.pv_glob.specs.Braces.{expansions_of, rests_of, whole, with_close, with_comma, with_element, with_open, within};
@@ -12,7 +13,7 @@ use crate::words::{Words, empty_word, joined, lengthened, together};
 use std::alloc::{AllocError, Global};
 
 impl Reading {
-    /// Nothing has been read.
+    /// Returns the value before anything is read.
     fn start(alloc: Global) -> Result<Reading, AllocError>
         ensures { IfOk result (λ new. (places : List (List ℕ)) → meaning new places ≡ whole (rests_of places)) }
     {
@@ -66,7 +67,7 @@ impl Reading {
         })
     }
 
-    /// Reads `}`, or answers nothing if no pair is open or there are more than `most` words.
+    /// Reads `}`. Returns `None` if no pair is open, or there are more than `most` words.
     fn close(self, alloc: Global, most: usize) -> Result<Option<Reading>, AllocError>
         ensures read { IfOk result (λ r. IfSome r (λ new. (places : List (List ℕ)) → meaning new places ≡ continued self (with_close (rests_of places)))) }
         ensures beyond { IfOk result (λ r. IfNone r ((places : List (List ℕ)) → within most (continued self (with_close (rests_of places))) ≡ None)) }
@@ -86,7 +87,7 @@ impl Reading {
         }))
     }
 
-    /// Reads the item at an index. It answers nothing if the item closes no pair of braces, or there are more than
+    /// Reads the item at the beginning of `place`. Returns `None` if it closes no pair, or there are more than
     /// `most` words.
     fn read(self, alloc: Global, place: &[u8], most: usize) -> Result<Option<Reading>, AllocError>
         requires { 0 < length place.now }
@@ -101,7 +102,7 @@ impl Reading {
         }
     }
 
-    /// What has been read, or nothing if a pair is open.
+    /// Returns the words that have been read, or `None` if a pair is open.
     fn finish(self) -> Option<Words>
         ensures value { result ≡ meaning self [] }
         ensures some { IfSome result (λ words. 0 < length words) }
@@ -111,8 +112,7 @@ impl Reading {
     }
 }
 
-/// The expansions of a component, or nothing if its braces are not balanced or there are more than
-/// `most`.
+/// Returns the expansions of a component, or `None` if its braces are not balanced or there are more than `most`.
 pub(crate) fn expansions_within(
     alloc: Global,
     component: &[u8],

@@ -1,4 +1,4 @@
-//! How brackets are read.
+//! Reads brackets.
 ghost use Rattle.std.specs.Prelude.{◌≡◌, ℕ, ◌+◌, ◌<◌, ◌≤◌, ◌++◌, length, take, drop, slice_index, IfSome, IfOk, OnOk, unwrap_or};
 ghost use Rattle.std.specs.List.{flat_map, list_any};
 ghost use Rattle.std.specs.Option.{option_map};
@@ -9,7 +9,7 @@ use crate::element::ByteRange;
 use pv_path::Sequence;
 use std::alloc::{AllocError, Global};
 
-/// What follows the first `count` bytes of a text.
+/// Returns a text without its first `count` bytes.
 pub(crate) fn behind(text: &[u8], count: usize) -> &[u8]
     ensures { result.now ≡ drop count text.now }
 {
@@ -20,14 +20,14 @@ pub(crate) fn behind(text: &[u8], count: usize) -> &[u8]
     }
 }
 
-/// The byte at a place, or NUL past the end.
+/// Returns the byte at an index, or NUL past the end.
 pub(crate) fn byte_at(text: &[u8], i: usize) -> u8
     ensures { result ≡ slice_index text.now i }
 {
     text.get(i).copied().unwrap_or(0)
 }
 
-/// Whether a class begins here.
+/// Returns whether a text begins with a class.
 fn opens_class(text: &[u8]) -> bool
     ensures { result ≡ opens_class text.now }
 {
@@ -37,7 +37,7 @@ fn opens_class(text: &[u8]) -> bool
     }
 }
 
-/// How many bytes stand before a mark and `]`.
+/// Returns how many bytes come before a mark and `]`.
 fn length_to_mark(mark: u8, text: &[u8]) -> Option<usize>
     ensures value { result ≡ length_to_mark mark text.now }
     ensures within { IfSome result (λ n. n + 2 ≤ length text.now) }
@@ -50,7 +50,7 @@ fn length_to_mark(mark: u8, text: &[u8]) -> Option<usize>
     None
 }
 
-/// How many bytes a class or another byte has in a bracket, or nothing for a class without its end.
+/// Returns how many bytes the class or the single byte at the beginning has, or `None` for a class without its end.
 fn token_length(text: &[u8]) -> Option<usize>
     requires { 0 < length text.now }
     ensures value { result ≡ token_length text.now }
@@ -64,7 +64,7 @@ fn token_length(text: &[u8]) -> Option<usize>
     }
 }
 
-/// How many bytes a bracket has between its sign and its end, or nothing if it has no end.
+/// Returns how many bytes a bracket has between its sign and its end, or `None` if it has no end.
 fn body_length(text: &[u8]) -> Option<usize>
     ensures value { result ≡ body_length text.now }
     ensures within { IfSome result (λ n. n < length text.now) }
@@ -85,7 +85,7 @@ fn body_length(text: &[u8]) -> Option<usize>
     None
 }
 
-/// Whether a bracket is negated.
+/// Returns whether a bracket is negated.
 pub(crate) fn has_sign(text: &[u8]) -> bool
     ensures { result ≡ has_sign text.now }
 {
@@ -95,7 +95,7 @@ pub(crate) fn has_sign(text: &[u8]) -> bool
     }
 }
 
-/// How many bytes the sign of negation has.
+/// Returns how many bytes the sign of negation has.
 pub(crate) fn sign_length(text: &[u8]) -> usize
     ensures value { result ≡ sign_length text.now }
     ensures small { result ≤ 1 }
@@ -103,7 +103,7 @@ pub(crate) fn sign_length(text: &[u8]) -> usize
     if has_sign(text) { 1 } else { 0 }
 }
 
-/// What stands in a bracket, of what follows its `[`; nothing if it has no end.
+/// Returns what is inside a bracket, from the text after its `[`, or `None` if it has no end.
 pub(crate) fn body_of(text: &[u8]) -> Option<&[u8]>
     ensures { option_map (λ s. s.now) result ≡ body_of text.now }
 {
@@ -112,14 +112,14 @@ pub(crate) fn body_of(text: &[u8]) -> Option<&[u8]>
     Some(&inner[..length])
 }
 
-/// Whether a byte, `-` and something else stand here.
+/// Returns whether a text begins with a byte, `-` and something else.
 fn is_range(place: &[u8]) -> bool
     ensures { result ≡ is_range place.now }
 {
     !opens_class(place) && place.len() > 2 && place[1] == b'-'
 }
 
-/// How many bytes a class, a range or a single byte has that stands here.
+/// Returns how many bytes the class, range or single byte at the beginning has.
 fn item_length(place: &[u8]) -> usize
     requires { 0 < length place.now }
     ensures value { result ≡ item_length place.now }
@@ -134,14 +134,14 @@ fn item_length(place: &[u8]) -> usize
     }
 }
 
-/// Whether a range stands here that ends below its start or at a class.
+/// Returns whether a text begins with a range that ends below its start or at a class.
 fn is_bad_range(place: &[u8]) -> bool
     ensures { result ≡ is_bad_range place.now }
 {
     is_range(place) && (opens_class(behind(place, 2)) || byte_at(place, 2) < byte_at(place, 0))
 }
 
-/// The ranges of the class that stands here, or nothing if there is no such class.
+/// Returns the ranges of the class at the beginning, or `None` if there is no such class.
 fn class_at(place: &[u8]) -> Option<&'static [ByteRange]>
     requires { 0 < length place.now }
     ensures { option_map (λ s. s.now) result ≡ class_at place.now }
@@ -154,7 +154,7 @@ fn class_at(place: &[u8]) -> Option<&'static [ByteRange]>
     }
 }
 
-/// The first `count` bytes of a text, or all of them if there are fewer.
+/// Returns the first `count` bytes of a text, or all of them if there are fewer.
 fn front(text: &[u8], count: usize) -> &[u8]
     ensures { result.now ≡ take count text.now }
 {
@@ -165,7 +165,7 @@ fn front(text: &[u8], count: usize) -> &[u8]
     }
 }
 
-/// Whether a class stands here that there is not.
+/// Returns whether a text begins with a class that does not exist.
 fn is_bad_class(place: &[u8]) -> bool
     requires { 0 < length place.now }
     ensures { result ≡ is_bad_class place.now }
@@ -173,7 +173,7 @@ fn is_bad_class(place: &[u8]) -> bool
     opens_class(place) && class_at(place).is_none()
 }
 
-/// Whether some range in a bracket's body is a bad one.
+/// Returns whether a range inside a bracket ends below its start or at a class.
 pub(crate) fn has_bad_range(body: &[u8]) -> bool
     ensures { result ≡ list_any is_bad_range (items_of body.now) }
 {
@@ -187,7 +187,7 @@ pub(crate) fn has_bad_range(body: &[u8]) -> bool
     false
 }
 
-/// Whether some class in a bracket's body is none.
+/// Returns whether a class inside a bracket does not exist.
 pub(crate) fn has_bad_class(body: &[u8]) -> bool
     ensures { result ≡ list_any is_bad_class (items_of body.now) }
 {
@@ -201,7 +201,7 @@ pub(crate) fn has_bad_class(body: &[u8]) -> bool
     false
 }
 
-/// Adds ranges at the end of a list.
+/// Adds the ranges `more` at the end.
 fn add_all(ranges: &mut Sequence<ByteRange>, more: &[ByteRange]) -> Result<(), AllocError>
     ensures { OnOk result (ranges.new ≡ ranges.old ++ more.now) }
 {
@@ -211,7 +211,7 @@ fn add_all(ranges: &mut Sequence<ByteRange>, more: &[ByteRange]) -> Result<(), A
     Ok(())
 }
 
-/// Adds the bytes that stand here to the ranges of a bracket.
+/// Adds the ranges of the class, range or single byte at the beginning of `place`.
 fn add_item(ranges: &mut Sequence<ByteRange>, place: &[u8]) -> Result<(), AllocError>
     requires { 0 < length place.now }
     ensures { OnOk result (ranges.new ≡ ranges.old ++ item_ranges place.now) }
@@ -230,7 +230,7 @@ fn add_item(ranges: &mut Sequence<ByteRange>, place: &[u8]) -> Result<(), AllocE
     Ok(())
 }
 
-/// The bytes of a bracket's body as ranges.
+/// Returns the bytes inside a bracket as ranges.
 pub(crate) fn ranges_of(alloc: Global, body: &[u8]) -> Result<Sequence<ByteRange>, AllocError>
     ensures { IfOk result (λ ranges. ranges ≡ flat_map item_ranges (items_of body.now)) }
 {

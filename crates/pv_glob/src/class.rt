@@ -1,4 +1,4 @@
-//! The named classes of ASCII bytes.
+//! The named classes of ASCII bytes, such as `[:digit:]`.
 ghost use Rattle.std.specs.Prelude.{◌≡◌};
 ghost use Rattle.std.specs.Option.{option_map};
 ghost use Rattle.pv_glob.specs.Elements.{class_named};
@@ -120,7 +120,7 @@ const XDIGIT: [ByteRange; 3] = [
     },
 ];
 
-/// The ranges of a class of ASCII bytes, or nothing if there is no class of this name.
+/// Returns the ranges of the class of ASCII bytes with this name, or `None` if there is no such class.
 pub(crate) fn class_named(name: &[u8]) -> Option<&'static [ByteRange]>
     ensures { option_map (λ s. s.now) result ≡ class_named name.now }
 {

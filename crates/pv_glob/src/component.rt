@@ -1,4 +1,4 @@
-//! Elements of a component: the element at an index, and its faults.
+//! Reads the elements of a component, and finds their faults.
 ghost use Rattle.std.specs.Prelude.{◌≡◌, [], ◌∷◌, ◌<◌, find, length, IfOk};
 ghost use Rattle.std.specs.List.{list_any};
 ghost use Rattle.pv_glob.specs.declared.pattern_fault.PatternFault.TheVariants.{UnclosedBracket, BadRange, BadClass, Brace};
@@ -13,7 +13,7 @@ use crate::pattern_fault::PatternFault;
 use pv_path::is_staging;
 use std::alloc::{AllocError, Global};
 
-/// How many bytes stand here for one element.
+/// Returns how many bytes the element at the beginning of `place` has.
 pub(crate) fn element_length(place: &[u8]) -> usize
     requires { 0 < length place.now }
     ensures value { result ≡ element_length place.now }
@@ -30,7 +30,7 @@ pub(crate) fn element_length(place: &[u8]) -> usize
     }
 }
 
-/// The set of a bracket, of what follows its `[`.
+/// Returns the set of a bracket, from the text after its `[`.
 fn set_of(alloc: Global, text: &[u8]) -> Result<ByteSet, AllocError>
     ensures { IfOk result (λ set. set ≡ set_of text.now) }
 {
@@ -41,7 +41,7 @@ fn set_of(alloc: Global, text: &[u8]) -> Result<ByteSet, AllocError>
     })
 }
 
-/// The element that stands here.
+/// Returns the element at the beginning of `place`.
 pub(crate) fn element_at(alloc: Global, place: &[u8]) -> Result<Element, AllocError>
     requires { 0 < length place.now }
     ensures { IfOk result (λ element. element ≡ element_at place.now) }
@@ -55,7 +55,7 @@ pub(crate) fn element_at(alloc: Global, place: &[u8]) -> Result<Element, AllocEr
     })
 }
 
-/// Whether an element with a fault stands here.
+/// Returns whether the element at the beginning of `place` has this fault.
 fn has_fault_at(place: &[u8], fault: PatternFault) -> bool
     requires { 0 < length place.now }
     ensures { result ≡ has_fault_at fault place.now }
@@ -72,7 +72,7 @@ fn has_fault_at(place: &[u8], fault: PatternFault) -> bool
     }
 }
 
-/// Whether some element of a component has a fault.
+/// Returns whether an element of a component has this fault.
 pub(crate) fn has_fault(component: &[u8], fault: PatternFault) -> bool
     ensures { result ≡ list_any (has_fault_at fault) (elements_of component.now) }
 {
@@ -86,7 +86,7 @@ pub(crate) fn has_fault(component: &[u8], fault: PatternFault) -> bool
     false
 }
 
-/// The first fault of a component that its elements show before its braces are paired.
+/// Returns the first fault that the elements of a component have before its braces are paired.
 pub(crate) fn early_fault(component: &[u8]) -> Option<PatternFault>
     ensures { result ≡ find (λ f. list_any (has_fault_at f) (elements_of component.now)) (UnclosedBracket ∷ BadRange ∷ BadClass ∷ Brace ∷ []) }
 {
@@ -103,7 +103,7 @@ pub(crate) fn early_fault(component: &[u8]) -> Option<PatternFault>
     }
 }
 
-/// What is wrong with a component as a name of a path, or nothing.
+/// Returns what is wrong with a component as a name of a path, or `None` if nothing is.
 pub(crate) fn name_fault(component: &[u8]) -> Option<PatternFault>
     ensures { result ≡ name_fault component.now }
 {

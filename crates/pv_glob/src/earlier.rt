@@ -1,4 +1,4 @@
-//! The earlier of two paths in the order in which the first shared path is chosen.
+//! Chooses the earlier of two paths, in the order in which the first shared path is chosen.
 ghost use Rattle.std.specs.Prelude.{◌≡◌, ℕ, List, length};
 ghost use Rattle.std.specs.Ordering.{is_gt, nat_cmp, on};
 ghost use Rattle.std.specs.Cmp.Lexicographic.{slice_cmp};
@@ -8,7 +8,7 @@ use crate::rank::rank;
 use pv_path::{Name, TreePath};
 use std::cmp::Ordering;
 
-/// The order of two words of as many bytes, by the first bytes that differ.
+/// Compares two words of the same length by the first bytes that differ.
 fn bytes_order(a: &[u8], b: &[u8]) -> Ordering
     requires { length a.now ≡ length b.now }
     ensures { result ≡ slice_cmp (on rank nat_cmp) a.now b.now }
@@ -22,7 +22,7 @@ fn bytes_order(a: &[u8], b: &[u8]) -> Ordering
     Ordering::Equal
 }
 
-/// The order of two words: by length, and then by the first bytes that differ.
+/// Compares two words by length, and then by the first bytes that differ.
 fn word_order(a: &[u8], b: &[u8]) -> Ordering
     ensures { result ≡ word_cmp a.now b.now }
 {
@@ -32,7 +32,7 @@ fn word_order(a: &[u8], b: &[u8]) -> Ordering
     }
 }
 
-/// The order of two lists of as many names, by the first names that differ.
+/// Compares two lists with the same number of names by the first names that differ.
 fn names_order(a: &[Name], b: &[Name]) -> Ordering
     requires { length a.now ≡ length b.now }
     ensures { result ≡ slice_cmp word_cmp a.now b.now }
@@ -46,7 +46,7 @@ fn names_order(a: &[Name], b: &[Name]) -> Ordering
     Ordering::Equal
 }
 
-/// The order of two paths: by how many names they have, and then by the first names that differ.
+/// Compares two paths by their number of names, and then by the first names that differ.
 fn path_order(a: &TreePath, b: &TreePath) -> Ordering
     ensures { result ≡ shared_cmp a.now b.now }
 {
@@ -56,14 +56,14 @@ fn path_order(a: &TreePath, b: &TreePath) -> Ordering
     }
 }
 
-/// Whether a path comes after another.
+/// Returns whether path `a` comes after path `b`.
 fn is_after(a: &TreePath, b: &TreePath) -> bool
     ensures { result ≡ is_gt (shared_cmp a.now b.now) }
 {
     path_order(a, b) == Ordering::Greater
 }
 
-/// The earlier of two paths, if there are any. It takes no memory.
+/// Returns the earlier of two paths, if there are any. The call does not allocate.
 pub(crate) fn earlier(found: Option<TreePath>, next: Option<TreePath>) -> Option<TreePath>
     ensures { result ≡ earlier_of found next }
 {

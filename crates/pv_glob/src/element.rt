@@ -1,4 +1,4 @@
-//! What patterns are made of: bytes, wildcards and sets of bytes.
+//! The elements of patterns: bytes, wildcards and sets of bytes.
 ghost use Rattle.std.specs.Prelude.{◌≡◌, IfOk};
 ghost use Rattle.std.specs.List.{list_any};
 ghost use Rattle.pv_glob.specs.Matching.{in_range, in_set};
@@ -11,12 +11,12 @@ use std::alloc::AllocError;
 pub struct ByteRange {
     /// The least byte.
     pub low: u8,
-    /// The greatest byte.
+    /// The greatest byte. If it is less than `low`, the range has no bytes.
     pub high: u8,
 }
 
 impl ByteRange {
-    /// Whether a byte lies in the range.
+    /// Returns whether the range has this byte.
     fn has(self, byte: u8) -> bool
         ensures { result ≡ in_range byte self }
     {
@@ -24,17 +24,17 @@ impl ByteRange {
     }
 }
 
-/// The bytes in some range of a list, or those in none of them.
+/// The set of bytes for which a bracket stands: those in at least one range, or those in none.
 #[derive(Clone, Drop)]
 pub struct ByteSet {
-    /// Whether the bytes are those in no range: the bracket begins with `!` or `^`.
+    /// Whether the bytes are those in no range. The bracket then begins with `!` or `^`.
     pub negated: bool,
-    /// The ranges that the bracket spells, in its order.
+    /// The ranges of the bracket, in their order.
     pub ranges: Sequence<ByteRange>,
 }
 
 impl ByteSet {
-    /// Whether a byte belongs to the set (glob(7)).
+    /// Returns whether the set has this byte (glob(7)).
     pub fn has(&self, byte: u8) -> bool
         ensures { result ≡ in_set self.now byte }
     {
@@ -43,31 +43,31 @@ impl ByteSet {
     }
 }
 
-/// Whether a byte lies in some range of a list.
+/// Returns whether at least one of the ranges has this byte.
 fn is_listed(ranges: &[ByteRange], byte: u8) -> bool
     ensures { result ≡ list_any (in_range byte) ranges.now }
 {
     ranges.iter().any(|range| range.has(byte))
 }
 
-/// What a pattern is made of between its slashes (glob(7)). Only a written period matches the one with which a name begins.
+/// One element of a component (glob(7)). A period at the beginning of a name is matched only by `Byte`.
 #[derive(Clone, Drop)]
 pub enum Element {
-    /// This byte.
+    /// Exactly this byte.
     Byte(u8),
     /// `?`: any one byte.
     Any,
-    /// `*`: any bytes, or none.
+    /// `*`: any number of bytes, including none.
     Many,
     /// A bracket: one byte of a set.
     OneOf(ByteSet),
 }
 
-/// What stands for one name in a pattern.
+/// One component of a pattern: the elements that match one name of a path.
 pub type Component = Sequence<Element>;
 
 impl Element {
-    /// A copy of the element.
+    /// Returns a copy of the element. The only error is `AllocError`.
     pub fn copy(&self) -> Result<Element, AllocError>
         ensures { IfOk result (λ copy. copy ≡ self.now) }
     {
@@ -75,7 +75,7 @@ impl Element {
     }
 }
 
-/// A copy of the component.
+/// Returns a copy of the component.
 pub(crate) fn copy_of(component: &Component) -> Result<Component, AllocError>
     ensures { IfOk result (λ copy. copy ≡ component.now) }
 {

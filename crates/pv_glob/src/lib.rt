@@ -1,4 +1,7 @@
-//! Patterns of paths, as in glob(7): how they are read, which paths they match, and the first path that two of them share.
+//! Patterns of paths (glob(7)): how they are read, which paths they match, and the first path that two of them share.
+//!
+//! A program needs [`parse_pattern`], [`literal`], [`matches`] and [`meet`]. The other items are the parts that these
+//! calls are made of.
 #![tactic(auto)]
 
 mod alike;

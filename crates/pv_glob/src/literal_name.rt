@@ -1,4 +1,4 @@
-//! Components of written bytes alone, and the one name that such a component matches.
+//! Components without wildcards, and the one name that such a component matches.
 ghost use Rattle.std.specs.Prelude.{◌≡◌, false, IfOk};
 ghost use Rattle.pv_path.specs.Names.{is_staging};
 ghost use Rattle.pv_glob.specs.Matching.{component_matches};
@@ -10,7 +10,9 @@ use crate::plain::Plain;
 use pv_path::{Bytes, Name, is_name, is_staging};
 use std::alloc::{AllocError, Global};
 
-/// The bytes of a component of written bytes alone, or nothing if it has another element (glob(7)).
+/// Returns the bytes of a component that has no wildcard and no bracket, or `None` for any other (glob(7)).
+///
+/// The only error is `AllocError`.
 pub fn written(alloc: Global, component: &Component) -> Result<Option<Bytes>, AllocError>
     ensures { IfOk result (λ bytes. bytes ≡ written component.now) }
 {
@@ -24,7 +26,7 @@ pub fn written(alloc: Global, component: &Component) -> Result<Option<Bytes>, Al
     Ok(Some(bytes))
 }
 
-/// Whether a component matches a name that is not a staging name.
+/// Returns whether a component matches a name that is not a staging name.
 fn is_matched(alloc: Global, component: &Component, name: &Name) -> Result<bool, AllocError>
     requires { is_staging name.now ≡ false }
     ensures { IfOk result (λ matched. matched ≡ component_matches component.now name.now) }
@@ -34,7 +36,8 @@ fn is_matched(alloc: Global, component: &Component, name: &Name) -> Result<bool,
     Ok(plain.matches(&[name.copy()?]))
 }
 
-/// The name of some bytes, where they are one, no staging name, and a component matches it, or nothing.
+/// Returns the bytes as a name if they are one, it is not a staging name, and the component matches it. Otherwise
+/// `None`.
 pub(crate) fn name_by(
     alloc: Global,
     component: &Component,

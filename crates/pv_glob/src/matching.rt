@@ -7,8 +7,7 @@ ghost use Rattle.pv_path.specs.Paths.{has_staging};
 use crate::element::{Component, Element};
 use pv_path::{Name, is_staging};
 
-/// Whether an element that stands for one byte matches this byte, which is not the first of a name,
-/// or no period.
+/// Returns whether an element for one byte matches this byte, which is not a period at the beginning of a name.
 fn byte_matches(element: &Element, byte: u8) -> bool
     ensures { result ≡ byte_matches element.now false byte }
 {
@@ -20,8 +19,9 @@ fn byte_matches(element: &Element, byte: u8) -> bool
     }
 }
 
-/// Whether elements match a rest of a name, or a name that does not begin with a period.
-/// The only place to return to is the last `*`.
+/// Returns whether elements match the rest of a name, or a name that does not begin with a period.
+///
+/// If a match fails, only the last `*` needs to take one byte more.
 fn rest_matches(elements: &[Element], name: &[u8]) -> bool
     ensures { result ≡ name_matches elements.now false name.now }
 {
@@ -51,7 +51,7 @@ fn rest_matches(elements: &[Element], name: &[u8]) -> bool
     }
 }
 
-/// Whether elements match a name that is a period and then these bytes.
+/// Returns whether elements match the name of a period and then these bytes.
 fn hidden_matches(elements: &[Element], left: &[u8]) -> bool
     ensures { result ≡ name_matches elements.now true (46 ∷ left.now) }
 {
@@ -66,7 +66,7 @@ fn hidden_matches(elements: &[Element], left: &[u8]) -> bool
     false
 }
 
-/// Whether a component matches a whole name.
+/// Returns whether a component matches a whole name.
 fn component_matches(elements: &[Element], name: &[u8]) -> bool
     ensures { result ≡ component_matches elements.now name.now }
 {
@@ -82,7 +82,7 @@ fn component_matches(elements: &[Element], name: &[u8]) -> bool
     }
 }
 
-/// Whether each component matches the name at its place.
+/// Returns whether each component matches the name at the same index.
 fn all_match(components: &[Component], names: &[Name]) -> bool
     requires { length components.now ≡ length names.now }
     ensures { result ≡ pointwise component_matches components.now names.now }
@@ -93,14 +93,14 @@ fn all_match(components: &[Component], names: &[Name]) -> bool
     ))
 }
 
-/// Whether some name is a staging name.
+/// Returns whether at least one name is a staging name.
 fn has_staging(names: &[Name]) -> bool
     ensures { result ≡ has_staging names.now }
 {
     names.iter().any(|name| is_staging(name.bytes()))
 }
 
-/// Whether components match names: as many, each its own, and no staging name.
+/// Returns whether there are as many components as names, each matches its name, and no name is a staging name.
 pub(crate) fn names_match(components: &[Component], names: &[Name]) -> bool
     ensures { result ≡ matches components.now names.now }
 {

@@ -1,4 +1,4 @@
-//! The first path that two reaches share.
+//! Finds the first path that two patterns share.
 ghost use Rattle.std.specs.Prelude.{◌≡◌, ℕ, ◌<◌, ◌≤◌, List, [], ◌∷◌, ◌++◌, true, false, not, ◌&&◌, nat_lt, length, slice_index_or, All, IsNone, IfOk, IfSome, MatchOption, if◌then◌else◌};
 ghost use Rattle.pv_path.specs.Paths.{Path};
 ghost use Rattle.pv_glob.specs.Matching.{component_matches};
@@ -17,16 +17,18 @@ use crate::search::least_word;
 use pv_path::{Bytes, Name, TreePath};
 use std::alloc::{AllocError, Global};
 
-/// The paths that a pattern matches, and with `below` what lies below them too.
+/// The paths that a pattern matches, and, if `below` is true, also every path below one of them.
+///
+/// No path with a staging name belongs to it.
 #[derive(Drop)]
 pub struct Reach {
-    /// What the paths match.
+    /// The pattern.
     pub pattern: Pattern,
-    /// Whether what lies below is reached too.
+    /// Whether paths below a matched path belong to it too.
     pub below: bool,
 }
 
-/// The first name of any length that two components match, or nothing if they match none.
+/// Returns the first word that both components match, of any length, or `None` if there is none.
 fn first_word(alloc: Global, a: &Component, b: &Component) -> Result<Option<Bytes>, AllocError>
     ensures none { IfOk result (λ found. IsNone found → (word : List ℕ) → is_shared a.now b.now word ≡ false) }
     ensures first { IfOk result (λ found. IfSome found (IsFirst word_cmp (is_shared a.now b.now))) }
@@ -36,8 +38,9 @@ fn first_word(alloc: Global, a: &Component, b: &Component) -> Result<Option<Byte
     least_word(alloc, &mut machine, places)
 }
 
-/// The first name that two components match, or nothing if they match none, found by a machine. A name has at most
-/// 255 bytes.
+/// Returns the first name that both components match, found by an automaton, or `None` if there is none.
+///
+/// A name has at most 255 bytes.
 fn searched_name(alloc: Global, a: &Component, b: &Component) -> Result<Option<Name>, AllocError>
     ensures none { IfOk result (λ found. IsNone found → (name : List ℕ) → shares a.now b.now name ≡ false) }
     ensures first { IfOk result (λ found. IfSome found (IsFirst word_cmp (shares a.now b.now))) }
@@ -54,8 +57,9 @@ fn searched_name(alloc: Global, a: &Component, b: &Component) -> Result<Option<N
     }
 }
 
-/// The first name that two components match, or nothing if they match none. Written bytes match one name alone, so
-/// where one of the two is written no machine is made.
+/// Returns the first name that both components match, or `None` if there is none.
+///
+/// A component without wildcards matches one name alone. If one of the two is such, no automaton is made.
 fn first_name(alloc: Global, a: &Component, b: &Component) -> Result<Option<Name>, AllocError>
     ensures none { IfOk result (λ found. IsNone found → (name : List ℕ) → shares a.now b.now name ≡ false) }
     ensures first { IfOk result (λ found. IfSome found (IsFirst word_cmp (shares a.now b.now))) }
@@ -69,7 +73,7 @@ fn first_name(alloc: Global, a: &Component, b: &Component) -> Result<Option<Name
     }
 }
 
-/// Whether some components at one place surely match no name together. It takes no memory.
+/// Returns true only if two components at one index match no name in common. The call does not allocate.
 fn some_apart(a: &[Component], b: &[Component]) -> bool
     ensures { result ≡ true → (k : ℕ) × (k < length a.now) × (k < length b.now) × ((name : List ℕ) → shares (slice_index_or a.now k []) (slice_index_or b.now k []) name ≡ false) }
 {
@@ -81,7 +85,7 @@ fn some_apart(a: &[Component], b: &[Component]) -> bool
     false
 }
 
-/// Whether some path is long enough for both.
+/// Returns whether a path of some length can belong to both.
 fn has_room(a: &[Component], a_below: bool, b: &[Component], b_below: bool) -> bool
     ensures { result ≡ has_room a.now a_below b.now b_below }
 {
@@ -94,7 +98,7 @@ fn has_room(a: &[Component], a_below: bool, b: &[Component], b_below: bool) -> b
     }
 }
 
-/// The component of the first pattern at a place, or that of the second past its end.
+/// Returns the component of the first pattern at an index, or that of the second past the end of the first.
 fn component_at<'a>(a: &'a [Component], b: &'a [Component], at: usize) -> &'a Component
     requires { length a.now ≤ at → at < length b.now }
     ensures { result.now ≡ met_at a.now b.now at }
@@ -102,7 +106,7 @@ fn component_at<'a>(a: &'a [Component], b: &'a [Component], at: usize) -> &'a Co
     if at < a.len() { &a[at] } else { &b[at] }
 }
 
-/// The first path that two patterns without braces reach, or nothing if they reach none together.
+/// Returns the first path that belongs to both, of two patterns without braces, or `None` if there is none.
 fn meet_plain(
     alloc: Global,
     a: &[Component],
@@ -128,8 +132,8 @@ fn meet_plain(
     Ok(Some(path))
 }
 
-/// The first path that a pattern without braces and any of some others reach, or nothing if it reaches none with
-/// them.
+/// Returns the first path that belongs to a pattern without braces and to any of some others, or `None` if there is
+/// none.
 fn meet_each(
     alloc: Global,
     a: &[Component],
@@ -147,8 +151,7 @@ fn meet_each(
     Ok(found)
 }
 
-/// The first path that any of some patterns without braces and any of some others reach, or nothing if there is
-/// none.
+/// Returns the first path that belongs to any of some patterns without braces and to any of some others, or `None`.
 fn meet_all(
     alloc: Global,
     a: &[Plain],
@@ -166,9 +169,13 @@ fn meet_all(
     Ok(found)
 }
 
-/// The first path in the intersection of two reaches, or nothing exactly if no path is in both. First is the path with
-/// the fewest names, and among those the one with the shortest names, name by name. Names of one length are in the
-/// order of bytes `a` to `z`, `0` to `9`, `A` to `Z` and then by value.
+/// Returns the first path that belongs to both `a` and `b`, or `None` exactly if there is no such path.
+///
+/// A path with fewer names comes first. Among paths with the same number of names, the first name that differs
+/// decides, and the shorter name comes first. In names of one length the first byte that differs decides: `a` to
+/// `z`, then `0` to `9`, then `A` to `Z`, then the other bytes by value. The only error is `AllocError`.
+///
+/// For example, the first path that `/a/*b` and `/a/b*` share is `/a/b`.
 pub fn meet(alloc: Global, a: &Reach, b: &Reach) -> Result<Option<TreePath>, AllocError>
     ensures none { IfOk result (λ found. IsNone found → (path : Path) → are_met a.now.pattern a.now.below b.now.pattern b.now.below path ≡ false) }
     ensures first { IfOk result (λ found. IfSome found (IsFirst shared_cmp (are_met a.now.pattern a.now.below b.now.pattern b.now.below))) }

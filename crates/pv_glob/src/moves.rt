@@ -1,38 +1,45 @@
-//! What a search asks of a machine that reads words.
+//! An automaton over bytes, as a search sees it.
 ghost use Rattle.std.specs.Prelude.{◌≡◌, ℕ, ◌+◌, ◌<◌, All, IfOk};
 ghost use Rattle.pv_glob.specs.Machines.{AllInside, Machine, targets};
 
 use pv_path::Sequence;
 use std::alloc::{AllocError, Global};
 
-/// A move of a machine: any byte from `low` to `high`, both included and by value, leads to a place.
+/// One move of an automaton: each byte from `low` to `high`, both included and by value, leads to the state `to`.
 #[derive(Clone, Copy, PartialEq, Eq)]
 pub struct Move {
     /// The least byte.
     pub low: u8,
     /// The greatest byte.
     pub high: u8,
-    /// The place to which the move leads, counted from 0.
+    /// The state to which the move leads, counted from 0.
     pub to: u32,
 }
 
-/// Moves in some order.
+/// A list of moves.
 pub type MoveList = Sequence<Move>;
 
-/// An automaton that reads words. Its states are known by queries, and it answers as many as are left.
+/// A finite automaton that reads words byte by byte. A word is a string of bytes. The states are numbers, counted from
+/// 0. A call of `moves` is a query, and the automaton has a budget of queries.
+///
+/// An end is an accepting state: a word is accepted if its bytes lead from state 0 to an end. Several moves from one
+/// state may take the same byte.
 pub trait Moves {
-    /// The machine: its places, its ends, and where bytes lead. No call changes it.
+    /// In contracts: the automaton, with its number of states, its ends, and the states to which bytes lead.
     ghost machine: { Self → Machine };
 
-    /// How many queries are left.
+    /// In contracts: how many queries are left.
     ghost questions: { Self → ℕ };
 
-    /// Whether a place is an end. It takes no memory.
+    /// Returns whether a state is an end. `at` is the state, below the number of states. The call does not allocate.
     fn end(&self, at: u32) -> bool
         requires { at < (machine self.now).places }
         ensures { result ≡ (machine self.now).is_end at };
 
-    /// The moves from a state. It spends one query, after running out of memory too.
+    /// Returns the moves from a state, all of which lead to states that exist.
+    ///
+    /// `at` is the state, below the number of states. At least one query must be left. The call uses up one query, even
+    /// after an error. The automaton stays the same. The only error is `AllocError`.
     fn moves(&mut self, alloc: Global, at: u32) -> Result<MoveList, AllocError>
         requires place { at < (machine self.old).places }
         requires question { 0 < questions self.old }

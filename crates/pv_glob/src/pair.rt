@@ -1,4 +1,4 @@
-//! The machine of two components of patterns.
+//! The automaton of two components of patterns.
 ghost use Rattle.std.specs.Prelude.{◌≡◌, ℕ, ◌+◌, ◌*◌, ◌<◌, ◌≤◌, ◌^◌, [], ◌∷◌, ◌++◌, List, length, slice_index_or, Option, Some, None, IfOk, IfSome, OnOk, All, if◌then◌else◌};
 ghost use Rattle.std.specs.List.{flat_map};
 ghost use Rattle.std.specs.Option.{option_map, option_to_list};
@@ -22,7 +22,7 @@ struct Components<'a> {
     right: &'a [Element],
 }
 
-/// Where a byte leads that the two elements at a spot may take.
+/// Returns the state to which a byte leads that both elements at a spot take.
 fn target(components: Components<'_>, spot: Spot, byte: u8) -> Option<u32>
     requires left { spot.left < length components.left.now }
     requires right { spot.right < length components.right.now }
@@ -47,7 +47,7 @@ fn target(components: Components<'_>, spot: Spot, byte: u8) -> Option<u32>
     }
 }
 
-/// Moves with the move of a run of bytes, if there is one, at the end.
+/// Adds the move of a run of bytes at the end, if there is one.
 fn end_run(moves: &mut MoveList, run: Option<Move>) -> Result<(), AllocError>
     ensures { OnOk result (moves.new ≡ moves.old ++ option_to_list run) }
 {
@@ -57,7 +57,7 @@ fn end_run(moves: &mut MoveList, run: Option<Move>) -> Result<(), AllocError>
     }
 }
 
-/// The move of a run of bytes that lead to one place, if there is one.
+/// Returns the move of a run of bytes that lead to one state, if there is one.
 fn run_of(low: u8, high: u8, to: Option<u32>) -> Option<Move>
     ensures { result ≡ option_map (λ to. record { low = low; high = high; to = to }) to }
 {
@@ -67,7 +67,7 @@ fn run_of(low: u8, high: u8, to: Option<u32>) -> Option<Move>
     }
 }
 
-/// The move of a run with the bytes after it up to another too, where these lead to the same place.
+/// Returns the move of a run that is extended up to `high`, if the further bytes lead to the same state.
 fn with_bytes(run: Option<Move>, high: u8, to: Option<u32>) -> Option<Move>
     ensures longer { IfSome result (λ longer. (old : Move) × (run ≡ Some old) × (to ≡ Some old.to) × (longer ≡ record old { high = high })) }
 {
@@ -77,8 +77,9 @@ fn with_bytes(run: Option<Move>, high: u8, to: Option<u32>) -> Option<Move>
     }
 }
 
-/// The last byte of the run from one byte on that surely leads to the same state. If one of the two elements at a spot
-/// is a byte, all other bytes lead nowhere. `*` and `?` treat few bytes differently.
+/// Returns the last byte of a run from `byte` on that surely leads to the same state.
+///
+/// If one of the two elements is a byte, all other bytes lead nowhere. `*` and `?` treat few bytes differently.
 fn last_alike(components: Components<'_>, spot: Spot, byte: u8) -> u8
     requires left { spot.left < length components.left.now }
     requires right { spot.right < length components.right.now }
@@ -101,8 +102,7 @@ fn last_alike(components: Components<'_>, spot: Spot, byte: u8) -> u8
     }
 }
 
-/// Adds the moves that go where the two elements at a spot take the same byte, one for each run of bytes that lead to one
-/// place.
+/// Adds the moves by the bytes that both elements at a spot take, one for each run of bytes that lead to one state.
 fn add_runs(moves: &mut MoveList, components: Components<'_>, spot: Spot) -> Result<(), AllocError>
     requires left { spot.left < length components.left.now }
     requires right { spot.right < length components.right.now }
@@ -130,7 +130,7 @@ fn add_runs(moves: &mut MoveList, components: Components<'_>, spot: Spot) -> Res
     end_run(moves, run)
 }
 
-/// Adds the moves that go where an element of the left component and any of some of the right one take a byte.
+/// Adds the moves by the bytes that an element of the left component and one of some of the right component take.
 fn add_moves(
     moves: &mut MoveList,
     components: Components<'_>,
@@ -157,7 +157,7 @@ fn add_moves(
     Ok(())
 }
 
-/// The moves that go from a place of the machine of two components.
+/// Returns the moves from a spot of the automaton of two components.
 fn moves_from(alloc: Global, components: Components<'_>, spot: Spot) -> Result<MoveList, AllocError>
     requires left { spot.left ≤ length components.left.now }
     requires right { spot.right ≤ length components.right.now }
@@ -174,9 +174,11 @@ fn moves_from(alloc: Global, components: Components<'_>, spot: Spot) -> Result<M
     Ok(moves)
 }
 
-/// The automaton whose words are the names of any length that two components of patterns both match (glob(7)). Such a
-/// name is not empty, has no slash and no NUL, is neither `.` nor `..`, and is not a staging name. It answers as many
-/// queries as it has states.
+/// An automaton for two components of patterns. It accepts a word if both components match it and it can be a name
+/// (glob(7)).
+///
+/// A word that can be a name is not empty, has no slash and no NUL, is neither `.` nor `..`, and does not begin with
+/// `.#tf-`. Its length has no limit. The automaton has a budget of as many queries as it has states.
 #[derive(Drop)]
 pub struct PairMachine {
     first: Component,
@@ -185,7 +187,7 @@ pub struct PairMachine {
     ghost in_range: { 7 * ((length first + 1) * (length second + 1)) < 2 ^ 32 },
 }
 
-/// The machine of two components.
+/// Returns the automaton of two components.
 pub(crate) fn pair_of(a: &Component, b: &Component) -> Result<PairMachine, AllocError>
     ensures words { IfOk result (λ machine. (word : List ℕ) → reads (pair_machine machine.first machine.second) 0 word ≡ is_shared a.now b.now word) }
     ensures first { IfOk result (λ machine. machine.first ≡ a.now) }
@@ -206,15 +208,15 @@ pub(crate) fn pair_of(a: &Component, b: &Component) -> Result<PairMachine, Alloc
     }
 }
 
-/// A component once more.
+/// Returns a copy of the component.
 pub(crate) fn copied(component: &Component) -> Result<Component, AllocError>
     ensures { IfOk result (λ copy. copy ≡ component.now) }
 {
     component.clone()
 }
 
-/// The number of places of a machine of components with so many elements, or nothing if they are too many to
-/// count.
+/// Returns the number of states for components with these numbers of elements, or `None` if it does not fit into 32
+/// bits.
 fn places_of(left: usize, right: usize) -> Option<u32>
     ensures { IfSome result (λ places. places ≡ 7 * ((left + 1) * (right + 1))) }
 {
@@ -223,8 +225,11 @@ fn places_of(left: usize, right: usize) -> Option<u32>
 }
 
 impl PairMachine {
-    /// The machine of the components of two patterns at an index counted from 0. Its words are the names that both
-    /// match, however long.
+    /// Makes the automaton of the components of two patterns at index `i`, counted from 0.
+    ///
+    /// Both patterns must have a component at this index. For components of n and m elements there are at least 1 and
+    /// at most 8(n + 1)(m + 1) states. The only error is `AllocError`. It also comes if there would be 2^32 states or
+    /// more.
     pub fn of(alloc: Global, a: &Plain, b: &Plain, i: usize) -> Result<PairMachine, AllocError>
         requires left { i < length a.now }
         requires right { i < length b.now }
@@ -236,7 +241,7 @@ impl PairMachine {
         pair_of(&a.components()[i], &b.components()[i])
     }
 
-    /// The number of places.
+    /// Returns the number of states.
     pub fn places(&self) -> u32
         ensures { result ≡ (⟦<PairMachine as Moves>⟧.machine self.now).places }
     {

@@ -1,4 +1,4 @@
-//! How a pattern is read from a text.
+//! Reads a pattern from a text.
 ghost use Rattle.std.specs.Prelude.{◌≡◌, ◌<◌, length, map, IfOk};
 ghost use Rattle.pv_glob.specs.Parsing.{Gives, component_of, components_of, first_fault, name_fault, pattern_of, pattern_with};
 
@@ -16,13 +16,28 @@ const MOST_TEXT_BYTES: usize = 4095;
 /// The most expansions that a pattern may have.
 const MOST_EXPANSIONS: usize = 256;
 
-/// The pattern that a text spells, or the first fault in the order of `PatternFault` (glob(7)).
-/// Slashes in a row count as one, and a last slash is dropped.
+/// Reads a pattern of absolute paths from a text (glob(7), and for the braces bash(1)).
 ///
-/// ```text
-/// let pattern = parse_pattern(alloc, b"/var/{log,cache}/*.tmp")?;
-/// matches(&pattern, &parse_path(alloc, b"/var/log/a.tmp")?)   // true
-/// ```
+/// Slashes in a row count as one, and slashes at the end are dropped. Each component matches one name of a path:
+///
+/// - `*` matches any number of bytes, including none, and `?` matches one byte.
+/// - `[..]` matches one byte of a set, such as `[a-c]`, `[!a-c]` or `[[:digit:]]`.
+/// - `{..,..}` stands for any one of its alternatives. Pairs of braces may be nested, and may not contain a slash.
+/// - A backslash and another byte match that byte, and every other byte matches itself.
+/// - A period at the beginning of a name is matched only by that byte in the pattern, not by a wildcard or a
+///   bracket.
+///
+/// The length of a single component has no limit of its own. For example, `/var/{log,cache}/*.tmp` matches
+/// `/var/log/a.tmp`.
+///
+/// An error is the first of these that applies:
+///
+/// - `NotAbsolute`, `BadByte` or `PathTooLong`, which are faults of the whole text;
+/// - `DotComponent` or `StagingName`, of the first component from the left that has one of them;
+/// - `UnclosedBracket`, `BadRange`, `BadClass`, `Brace` or `TrailingBackslash`, of the first component that has one
+///   of them.
+///
+/// `Memory` may come instead if an allocation fails.
 pub fn parse_pattern(alloc: Global, text: &[u8]) -> Result<Pattern, PatternFault>
     ensures { Gives result (pattern_of text.now) }
 {
@@ -39,7 +54,7 @@ pub fn parse_pattern(alloc: Global, text: &[u8]) -> Result<Pattern, PatternFault
     pattern_with(alloc, components.as_slice())
 }
 
-/// What stands between the slashes of a text, without what is empty.
+/// Returns what is between the slashes of a text, without empty components.
 fn components_of(alloc: Global, text: &[u8]) -> Result<Vec<&[u8]>, AllocError>
     ensures { IfOk result (λ v. map (λ s. s.now) v.items ≡ components_of text.now) }
 {
@@ -48,7 +63,7 @@ fn components_of(alloc: Global, text: &[u8]) -> Result<Vec<&[u8]>, AllocError>
         .collect(alloc)
 }
 
-/// The first fault of a component as a name of a path.
+/// Returns the first fault of a component as a name of a path.
 fn first_name_fault(components: &[&[u8]]) -> Option<PatternFault>
     ensures { result ≡ first_fault name_fault (map (λ s. s.now) components.now) }
 {
@@ -60,7 +75,7 @@ fn first_name_fault(components: &[&[u8]]) -> Option<PatternFault>
     None
 }
 
-/// The expansions of a component where the components before it have `before`, or its fault.
+/// Returns the expansions of a component, or its fault. The components before it have `before` expansions together.
 fn component_of(alloc: Global, component: &[u8], before: usize) -> Result<Words, PatternFault>
     requires { 0 < before }
     ensures value { Gives result (component_of before component.now) }
@@ -78,7 +93,7 @@ fn component_of(alloc: Global, component: &[u8], before: usize) -> Result<Words,
     Ok(words)
 }
 
-/// The pattern of these components, or their first fault.
+/// Returns the pattern of these components, or their first fault.
 fn pattern_with(alloc: Global, components: &[&[u8]]) -> Result<Pattern, PatternFault>
     ensures { Gives result (pattern_with (map (λ s. s.now) components.now)) }
 {

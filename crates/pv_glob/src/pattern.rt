@@ -10,8 +10,10 @@ use pv_path::{Name, Sequence, TreePath};
 use std::alloc::{AllocError, Global};
 use std::marker::Model;
 
-/// A pattern of paths. Clauses see the list of its expansions, the patterns without braces that come
-/// of choosing one alternative for each pair of braces.
+/// A pattern of paths, as the list of its expansions.
+///
+/// An expansion is a pattern without braces, with one alternative chosen for each pair of braces. All have the same
+/// number of components. In contracts, a value is the list of expansions.
 #[derive(Drop)]
 pub struct Pattern {
     plains: Sequence<Plain>,
@@ -30,7 +32,7 @@ impl Model for Pattern {
 }
 
 impl Pattern {
-    /// The pattern that has no braces.
+    /// Makes the pattern that has this one expansion. The only error is `AllocError`.
     pub fn of(alloc: Global, plain: Plain) -> Result<Pattern, AllocError>
         ensures { IfOk result (λ pattern. pattern ≡ plain ∷ []) }
     {
@@ -39,7 +41,7 @@ impl Pattern {
         Ok(Pattern { plains })
     }
 
-    /// The patterns without braces that it stands for, at least one, and all with as many components.
+    /// Returns the expansions, at least one. All have the same number of components.
     pub fn plains(&self) -> &[Plain]
         ensures value { result.now ≡ self.now }
         ensures even { are_expansions self.now ≡ true }
@@ -47,7 +49,7 @@ impl Pattern {
         self.plains.as_slice()
     }
 
-    /// The pattern with one component more, which stands for any of these.
+    /// Returns the pattern with one more component, which stands for any of these.
     pub(crate) fn followed(&self, alloc: Global, words: &[Component]) -> Result<Pattern, AllocError>
         requires { 0 < length words.now }
         ensures { IfOk result (λ pattern. pattern ≡ joined self.now (map (λ word. word ∷ []) words.now)) }
@@ -57,7 +59,7 @@ impl Pattern {
         })
     }
 
-    /// A copy of the pattern.
+    /// Returns a copy of the pattern. The only error is `AllocError`.
     pub fn copy(&self) -> Result<Pattern, AllocError>
         ensures { IfOk result (λ copy. copy ≡ self.now) }
     {
@@ -67,7 +69,7 @@ impl Pattern {
     }
 }
 
-/// Adds a plain pattern followed by each of these components.
+/// Adds an expansion followed by each of these components.
 fn add_followed(
     plains: &mut Sequence<Plain>,
     plain: &Plain,
@@ -83,7 +85,7 @@ fn add_followed(
     Ok(())
 }
 
-/// Each of the plain patterns followed by each of the components.
+/// Returns each of the expansions followed by each of the components.
 fn all_followed(
     alloc: Global,
     plains: &[Plain],
@@ -98,22 +100,26 @@ fn all_followed(
     Ok(longer)
 }
 
-/// Whether some of the plain patterns matches the path of these names.
+/// Returns whether at least one of the expansions matches the path of these names.
 fn some_matches(plains: &[Plain], names: &[Name]) -> bool
     ensures { result ≡ some_matches plains.now names.now }
 {
     plains.iter().any(|plain| plain.matches(names))
 }
 
-/// Whether a pattern matches a path (glob(7)). It does if some expansion has as many components as the path has names,
-/// each component matches its name, and no name is a staging name. It takes no memory.
+/// Returns whether a pattern matches a path (glob(7)).
+///
+/// It does if at least one expansion has as many components as the path has names, each component matches its name, and
+/// no name is a staging name. The call does not allocate.
 pub fn matches(pattern: &Pattern, path: &TreePath) -> bool
     ensures { result ≡ some_matches pattern.now path.now }
 {
     some_matches(pattern.plains(), path.names())
 }
 
-/// Whether a pattern matches the path of the first `count` names of a path. It takes no memory.
+/// Returns whether a pattern matches the path of the first `count` names of a path, as `matches` does.
+///
+/// `count` must be at most the number of names. The call does not allocate.
 pub fn matches_first(pattern: &Pattern, path: &TreePath, count: usize) -> bool
     requires { count ≤ length path.now }
     ensures { result ≡ some_matches pattern.now (take count path.now) }
@@ -121,7 +127,9 @@ pub fn matches_first(pattern: &Pattern, path: &TreePath, count: usize) -> bool
     some_matches(pattern.plains(), &path.names()[..count])
 }
 
-/// The pattern that matches one path alone.
+/// Returns the pattern that matches exactly one path.
+///
+/// The path must have no staging name. The only error is `AllocError`.
 pub fn literal(alloc: Global, path: &TreePath) -> Result<Pattern, AllocError>
     requires { has_staging path.now ≡ false }
     ensures components { IfOk result (λ pattern. pattern ≡ literal_of path.now ∷ []) }

@@ -11,7 +11,8 @@ use std::alloc::{AllocError, Global};
 use std::marker::Model;
 
 /// A pattern without braces: its components, one for each name of a path that it matches.
-/// Clauses see the list of components.
+///
+/// In contracts, a value is the list of components.
 #[derive(Drop)]
 pub struct Plain {
     components: Sequence<Component>,
@@ -27,7 +28,7 @@ impl Model for Plain {
 }
 
 impl Plain {
-    /// The pattern that matches the root alone. It takes no memory.
+    /// Returns the pattern without components, which matches the root alone. The call does not allocate.
     pub fn root(alloc: Global) -> Plain
         ensures { result ≡ [] }
     {
@@ -36,7 +37,9 @@ impl Plain {
         }
     }
 
-    /// The pattern that matches one path alone.
+    /// Returns the pattern that matches exactly one path.
+    ///
+    /// The path must have no staging name. The only error is `AllocError`.
     pub fn literal(alloc: Global, path: &TreePath) -> Result<Plain, AllocError>
         requires { has_staging path.now ≡ false }
         ensures components { IfOk result (λ plain. plain ≡ literal_of path.now) }
@@ -49,7 +52,7 @@ impl Plain {
         Ok(plain)
     }
 
-    /// Adds a component at the end. After running out of memory the pattern is as before.
+    /// Adds a component at the end. The only error is `AllocError`, and then the pattern is unchanged.
     pub fn push(&mut self, component: Component) -> Result<(), AllocError>
         ensures ok { OnOk result (self.new ≡ self.old ++ component ∷ []) }
         ensures err { OnErr result (self.new ≡ self.old) }
@@ -57,14 +60,14 @@ impl Plain {
         self.components.push(component)
     }
 
-    /// The components as a slice.
+    /// Returns the components as a slice.
     pub fn components(&self) -> &[Component]
         ensures { result.now ≡ self.now }
     {
         self.components.as_slice()
     }
 
-    /// A copy of the pattern.
+    /// Returns a copy of the pattern. The only error is `AllocError`.
     pub fn copy(&self) -> Result<Plain, AllocError>
         ensures { IfOk result (λ copy. copy ≡ self.now) }
     {
@@ -73,14 +76,19 @@ impl Plain {
         })
     }
 
-    /// Whether the pattern matches the path of these names (glob(7)). It takes no memory.
+    /// Returns whether the pattern matches the path of these names (glob(7)).
+    ///
+    /// It does if there are as many components as names, each component matches its name, and no name is a staging
+    /// name. The call does not allocate.
     pub fn matches(&self, names: &[Name]) -> bool
         ensures { result ≡ matches self.now names.now }
     {
         names_match(self.components(), names)
     }
 
-    /// Whether the pattern matches the path of the first `count` of these names. It takes no memory.
+    /// Returns whether the pattern matches the path of the first `count` of these names, as `matches` does.
+    ///
+    /// `count` must be at most the number of names. The call does not allocate.
     pub fn matches_first(&self, names: &[Name], count: usize) -> bool
         requires { count ≤ length names.now }
         ensures { result ≡ matches self.now (take count names.now) }
@@ -97,7 +105,7 @@ impl Clone for Plain {
     }
 }
 
-/// The elements that stand for these bytes, one for each.
+/// Returns the elements for these bytes, one for each.
 fn written(alloc: Global, bytes: &[u8]) -> Result<Component, AllocError>
     ensures { IfOk result (λ component. component ≡ map (λ b. Byte b) bytes.now) }
 {

@@ -2,7 +2,7 @@
 ghost use Rattle.std.specs.Prelude.{◌≡◌, ℕ, ◌<◌, ◌≤◌, ◌+◌};
 ghost use Rattle.pv_glob.specs.Words.{rank};
 
-/// The place of a byte in the order of bytes.
+/// Returns the index of a byte in the order that the search uses.
 pub(crate) fn rank(byte: u8) -> u16
     ensures { result ≡ rank byte }
 {
@@ -15,7 +15,7 @@ pub(crate) fn rank(byte: u8) -> u16
     }
 }
 
-/// The byte with a place in the order of bytes.
+/// Returns the byte with this index in the order that the search uses.
 pub(crate) fn byte_at(place: u16) -> u8
     requires byte { (b : ℕ) × (b < 256) × (rank b ≡ place) }
     ensures { rank result ≡ place }
@@ -29,7 +29,7 @@ pub(crate) fn byte_at(place: u16) -> u8
     byte as u8
 }
 
-/// The first byte of a range in the order of bytes, as its place there.
+/// Returns the least index, in the order that the search uses, of the bytes of a range.
 pub(crate) fn first_rank(low: u8, high: u8) -> u16
     requires { low ≤ high }
     ensures found { (b : ℕ) × (low ≤ b) × (b ≤ high) × (rank b ≡ result) }

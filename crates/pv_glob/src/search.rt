@@ -1,5 +1,5 @@
-//! The search of an automaton for its first word, level by level. Each level holds the states that words of one more
-//! byte lead to, each with the first word found to it.
+//! Searches an automaton for its first word, level by level. Level n holds the states to which a word of n bytes leads
+//! and no shorter word does, each with the first such word.
 ghost use Rattle.std.specs.Prelude.{◌≡◌, ℕ, ◌+◌, ◌<◌, ◌≤◌, List, [], ◌∷◌, ◌++◌, true, false, length, map, replicate, set, ◌-◌, All, Contains, Some, None, is_none, is_some, IfOk, IfSome, IsNone, OnOk, if◌then◌else◌};
 ghost use Rattle.std.specs.Ordering.{is_gt};
 ghost use Rattle.pv_glob.specs.Machines.{reads};
@@ -12,7 +12,7 @@ use crate::word::Word;
 use pv_path::Bytes;
 use std::alloc::{AllocError, Global};
 
-/// Notes that a word leads to a place, where no earlier one was found to it. A place without a word before is listed.
+/// Notes that a word leads to a state, if no earlier word does. A state that had no word before is added to `next`.
 fn note(
     found: &mut Vec<Option<Word>>,
     next: &mut Vec<u32>,
@@ -55,7 +55,7 @@ fn note_moves(
     Ok(())
 }
 
-/// The first word that was found to a place.
+/// Returns the first word that leads to a state.
 fn word_to(found: &Vec<Option<Word>>, place: u32) -> Result<Word, AllocError>
     requires inside { place < length found.now.items }
     requires found { is_some (word_at found.now.items place) ≡ true }
@@ -67,7 +67,7 @@ fn word_to(found: &Vec<Option<Word>>, place: u32) -> Result<Word, AllocError>
     }
 }
 
-/// Asks the places of a level for their moves, notes the words that follow, and answers the next level.
+/// Asks the states of a level for their moves, notes the words that follow, and returns the next level.
 fn next_level<M: Moves>(
     alloc: Global,
     machine: &mut M,
@@ -91,7 +91,7 @@ fn next_level<M: Moves>(
     Ok(next)
 }
 
-/// Whether a word comes before another, if there is one.
+/// Returns whether a word comes before another, or there is no other.
 fn is_earlier(word: &Word, first: &Option<Word>) -> bool
     ensures yes { result ≡ true → (old : List ℕ) → first.now ≡ Some old → is_gt (shortlex old word.now) ≡ true }
     ensures no { result ≡ false → (old : List ℕ) × (first.now ≡ Some old) × (is_gt (shortlex old word.now) ≡ false) }
@@ -102,7 +102,7 @@ fn is_earlier(word: &Word, first: &Option<Word>) -> bool
     }
 }
 
-/// The first word that was found to an end among the places of a level, or nothing if none is an end.
+/// Returns the first word that leads to an end among the states of a level, or `None` if none of them is an end.
 fn first_end<M: Moves>(
     machine: &M,
     found: &Vec<Option<Word>>,
@@ -123,7 +123,7 @@ fn first_end<M: Moves>(
     Ok(first)
 }
 
-/// What is found before the first query: the empty word, which leads to the first of some states.
+/// Returns what is known before the first query: the empty word, which leads to state 0.
 fn start(alloc: Global, places: u32) -> Result<Vec<Option<Word>>, AllocError>
     requires { 1 ≤ places }
     ensures { IfOk result (λ found. found.items ≡ Some [] ∷ replicate (places - 1) None) }
@@ -136,7 +136,7 @@ fn start(alloc: Global, places: u32) -> Result<Vec<Option<Word>>, AllocError>
     Ok(found)
 }
 
-/// The bytes of a word.
+/// Returns the bytes of a word.
 fn spelled(alloc: Global, word: &Word) -> Result<Bytes, AllocError>
     requires { (bytes : List ℕ) × All (λ b. b < 256) bytes × (map rank bytes ≡ word.now) }
     ensures { IfOk result (λ bytes. map rank bytes ≡ word.now) }
@@ -148,9 +148,13 @@ fn spelled(alloc: Global, word: &Word) -> Result<Bytes, AllocError>
     Ok(bytes)
 }
 
-/// The least word of an automaton: the shortest word that leads from its first state to an end, or nothing if no word
-/// does. Words of one length are in the order of bytes `a` to `z`, `0` to `9`, `A` to `Z` and then by value. `places`
-/// is the number of states. It makes at most as many queries as there are states.
+/// Returns the first word that leads from state 0 of an automaton to an end, or `None` if no word does.
+///
+/// Shorter words come first. In words of one length the first byte that differs decides: `a` to `z`, then `0` to
+/// `9`, then `A` to `Z`, then the other bytes by value.
+///
+/// `places` must be the number of states and at least 1, and at least that many queries must be left. The call makes at
+/// most `places` queries. The automaton stays the same. The only error is `AllocError`.
 pub fn least_word<M: Moves>(
     alloc: Global,
     machine: &mut M,

@@ -1,22 +1,21 @@
-//! The places of the machine of two components, and their numbers.
+//! The states of the automaton of two components, and their numbers.
 ghost use Rattle.std.specs.Prelude.{◌≡◌, ℕ, ◌+◌, ◌*◌, ◌<◌, ◌≤◌, ◌^◌};
 ghost use Rattle.pv_glob.specs.Pairs.{number_of, spot_at};
 
 use crate::beginning::Beginning;
 
-/// A place of the machine: one in each component, and how the word began.
+/// A state of the automaton of two components: an index in each component, and how the word began.
 #[derive(Clone, Copy)]
 pub struct Spot {
-    /// The place in the left component.
+    /// The index in the left component.
     pub left: usize,
-    /// The place in the right component.
+    /// The index in the right component.
     pub right: usize,
     /// How the word began.
     pub begun: Beginning,
 }
 
-/// The number of a place, where the right component has one place fewer than `width`, and the left one at most
-/// `most`.
+/// Returns the number of a state. The right component has `width` - 1 elements, and the left one at most `most`.
 pub(crate) fn number_of(width: usize, most: usize, spot: Spot) -> u32
     requires left { spot.left ≤ most }
     requires right { spot.right < width }
@@ -28,7 +27,7 @@ pub(crate) fn number_of(width: usize, most: usize, spot: Spot) -> u32
     (7 * cell) as u32 + spot.begun.number()
 }
 
-/// The place with a number.
+/// Returns the state with a number.
 pub(crate) fn spot_at(width: usize, most: usize, number: u32) -> Spot
     requires width { 0 < width }
     requires inside { number < 7 * ((most + 1) * width) }

@@ -5,7 +5,7 @@ ghost use Rattle.pv_glob.specs.Pairs.{behind, element_at, is_many, past_stars, s
 use crate::element::Element;
 use std::alloc::{AllocError, Global};
 
-/// Whether an element takes a byte; `first` says that a name begins with it.
+/// Returns whether an element takes a byte. `first` says whether it is the first byte of a name.
 fn takes(element: &Element, first: bool, byte: u8) -> bool
     ensures { result ≡ takes element.now first byte }
 {
@@ -17,14 +17,14 @@ fn takes(element: &Element, first: bool, byte: u8) -> bool
     }
 }
 
-/// Whether an element is `*`.
+/// Returns whether an element is `*`.
 pub(crate) fn is_many(element: &Element) -> bool
     ensures { result ≡ is_many element.now }
 {
     matches!(element, Element::Many)
 }
 
-/// Whether the element at a place takes a byte.
+/// Returns whether the element at an index takes a byte.
 pub(crate) fn takes_at(elements: &[Element], at: usize, first: bool, byte: u8) -> bool
     requires { at < length elements.now }
     ensures { result ≡ takes (element_at elements.now at) first byte }
@@ -32,7 +32,7 @@ pub(crate) fn takes_at(elements: &[Element], at: usize, first: bool, byte: u8) -
     takes(&elements[at], first, byte)
 }
 
-/// The place after the element at a place took a byte.
+/// Returns the index at which a component goes on after the element at `at` took a byte.
 pub(crate) fn behind(elements: &[Element], at: usize) -> usize
     requires { at < length elements.now }
     ensures value { result ≡ behind elements.now at }
@@ -41,7 +41,7 @@ pub(crate) fn behind(elements: &[Element], at: usize) -> usize
     if is_many(&elements[at]) { at } else { at + 1 }
 }
 
-/// How many `*` some elements begin with.
+/// Returns how many `*` the elements begin with.
 fn stars(elements: &[Element]) -> usize
     ensures value { result ≡ stars elements.now }
     ensures inside { result ≤ length elements.now }
@@ -52,7 +52,7 @@ fn stars(elements: &[Element]) -> usize
         .count()
 }
 
-/// The first place from another on that has no `*`.
+/// Returns the first index from `at` on whose element is not `*`, or the length.
 pub(crate) fn past_stars(elements: &[Element], at: usize) -> usize
     requires { at ≤ length elements.now }
     ensures value { result ≡ past_stars elements.now at }
@@ -61,7 +61,7 @@ pub(crate) fn past_stars(elements: &[Element], at: usize) -> usize
     at + stars(&elements[at..])
 }
 
-/// The places of the elements that may take the next byte.
+/// Returns the indices of the elements that may take the next byte.
 pub(crate) fn takers(
     alloc: Global,
     elements: &[Element],

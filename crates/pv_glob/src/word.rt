@@ -1,4 +1,4 @@
-//! Words as a search keeps them: by the places of their bytes in the order of bytes.
+//! Words as a search stores them: for each byte, its index in the order that the search uses (see `least_word`).
 ghost use Rattle.std.specs.Prelude.{◌≡◌, ℕ, List, [], ◌∷◌, ◌++◌, IfOk};
 ghost use Rattle.std.specs.Ordering.{is_gt};
 ghost use Rattle.pv_glob.specs.Words.{shortlex};
@@ -7,7 +7,7 @@ use std::alloc::{AllocError, Global};
 use std::cmp::Ordering;
 use std::marker::Model;
 
-/// A word. Clauses see the places of its bytes in the order of bytes.
+/// A word. In contracts, a value is the list of the indices of its bytes in the order that the search uses.
 #[derive(Drop)]
 pub(crate) struct Word {
     ranks: Vec<u16>,
@@ -20,7 +20,7 @@ impl Model for Word {
 }
 
 impl Word {
-    /// The word without bytes. It takes no memory.
+    /// Returns the word without bytes. The call does not allocate.
     pub(crate) fn empty(alloc: Global) -> Word
         ensures { result ≡ [] }
     {
@@ -29,14 +29,14 @@ impl Word {
         }
     }
 
-    /// The places of the bytes in the order of bytes.
+    /// Returns the indices of the bytes in the order that the search uses.
     pub(crate) fn ranks(&self) -> &[u16]
         ensures { result.now ≡ self.now }
     {
         self.ranks.as_slice()
     }
 
-    /// A copy of the word.
+    /// Returns a copy of the word.
     pub(crate) fn copy(&self) -> Result<Word, AllocError>
         ensures { IfOk result (λ word. word ≡ self.now) }
     {
@@ -45,7 +45,7 @@ impl Word {
         })
     }
 
-    /// The word followed by the byte at a place in the order of bytes.
+    /// Returns the word followed by the byte with this index in the order that the search uses.
     pub(crate) fn followed_by(&self, rank: u16) -> Result<Word, AllocError>
         ensures { IfOk result (λ word. word ≡ self.now ++ rank ∷ []) }
     {
@@ -55,7 +55,7 @@ impl Word {
         Ok(Word { ranks })
     }
 
-    /// Whether the word comes after another.
+    /// Returns whether the word comes after another.
     pub(crate) fn is_after(&self, other: &Word) -> bool
         ensures { result ≡ is_gt (shortlex self.now other.now) }
     {

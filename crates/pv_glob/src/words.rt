@@ -1,4 +1,4 @@
-//! Words of elements: the lists that braces choose among.
+//! Words of elements, among which braces choose.
 ghost use Rattle.std.specs.Prelude.{◌≡◌, [], ◌∷◌, ◌++◌, map, IfOk, OnOk};
 ghost use Rattle.pv_glob.specs.Braces.{joined};
 
@@ -9,7 +9,7 @@ use std::alloc::{AllocError, Global};
 /// Words of elements, in the order of the alternatives that they choose.
 pub(crate) type Words = Sequence<Component>;
 
-/// Adds the elements of a word at the end of another.
+/// Adds copies of the elements `more` at the end of a word.
 fn append(word: &mut Component, more: &[Element]) -> Result<(), AllocError>
     ensures { OnOk result (word.new ≡ word.old ++ more.now) }
 {
@@ -19,7 +19,7 @@ fn append(word: &mut Component, more: &[Element]) -> Result<(), AllocError>
     Ok(())
 }
 
-/// One word followed by another.
+/// Returns one word followed by another.
 fn chained(alloc: Global, first: &[Element], second: &[Element]) -> Result<Component, AllocError>
     ensures { IfOk result (λ word. word ≡ first.now ++ second.now) }
 {
@@ -29,7 +29,7 @@ fn chained(alloc: Global, first: &[Element], second: &[Element]) -> Result<Compo
     Ok(word)
 }
 
-/// Adds one word followed by each of others.
+/// Adds one word followed by each of the words `seconds`.
 fn add_joined(
     alloc: Global,
     words: &mut Words,
@@ -44,7 +44,7 @@ fn add_joined(
     Ok(())
 }
 
-/// Each of the first words followed by each of the second, copied.
+/// Returns copies of each of the first words followed by each of the second.
 fn product(alloc: Global, firsts: &[Component], seconds: &[Component]) -> Result<Words, AllocError>
     ensures { IfOk result (λ words. words ≡ joined firsts.now seconds.now) }
 {
@@ -55,7 +55,7 @@ fn product(alloc: Global, firsts: &[Component], seconds: &[Component]) -> Result
     Ok(words)
 }
 
-/// The words, each followed by these elements.
+/// Returns the words, each followed by these elements.
 pub(crate) fn lengthened(words: Words, more: &[Element]) -> Result<Words, AllocError>
     ensures { IfOk result (λ longer. longer ≡ map (λ word. word ++ more.now) words) }
 {
@@ -66,8 +66,8 @@ pub(crate) fn lengthened(words: Words, more: &[Element]) -> Result<Words, AllocE
     Ok(Words::from_vec(words))
 }
 
-/// Each of the first words followed by each of the second. Where the second is one word, the first are
-/// not copied.
+/// Returns each of the first words followed by each of the second. If there is one second word, the first are not
+/// copied.
 pub(crate) fn joined(
     alloc: Global,
     firsts: Words,
@@ -81,7 +81,7 @@ pub(crate) fn joined(
     }
 }
 
-/// All words of two lists.
+/// Returns the words of two lists, one list after the other.
 pub(crate) fn together(words: Words, more: Words) -> Result<Words, AllocError>
     ensures { IfOk result (λ all. all ≡ words ++ more) }
 {
@@ -90,7 +90,7 @@ pub(crate) fn together(words: Words, more: Words) -> Result<Words, AllocError>
     Ok(Words::from_vec(all))
 }
 
-/// The one word that has no element.
+/// Returns the list of one word, which has no elements.
 pub(crate) fn empty_word(alloc: Global) -> Result<Words, AllocError>
     ensures { IfOk result (λ words. words ≡ [] ∷ []) }
 {

@@ -2,10 +2,6 @@
 use Rattle.std.proofs.Common.{◌<◌, ◌≤◌, ◌+◌, ℕ, Option, None, Some, arith}
 use Rattle.pv_io.specs.Calls.{CountsAtMost, CountsCall}
 
-pub CountsAtMost-none : (a : Option ℕ) → CountsAtMost 0 a a
-CountsAtMost-none None = tt
-CountsAtMost-none (Some n) = omega arith
-
 -- one call more
 pub CountsAtMost-call : (k : ℕ) (a b c : Option ℕ) → CountsAtMost k a b → CountsCall b c → CountsAtMost (k + 1) a c
 CountsAtMost-call k None b c p q = tt

@@ -1,4 +1,4 @@
-//! A source and a sink in memory, which fail at planned calls.
+//! A source and a sink in memory, for tests. They fail at chosen calls.
 ghost use Rattle.std.specs.Prelude.{◌≡◌, ◌<◌, ◌≤◌, ◌-◌, ◌↔◌, ◌⊎◌, ◌++◌, [], length, min, take, drop, Contains, IsErr, IfOk, OnErr, Some};
 ghost use Rattle.std.specs.Io.KnownBytes.{Appends, Consumes, IsAtEnd, Keeps};
 ghost use Rattle.pv_io.specs.Calls.{call_after, CountsCall};
@@ -11,7 +11,9 @@ use crate::transfer_fault::Failed;
 use std::alloc::{AllocError, Global};
 use std::marker::Model;
 
-/// A source over memory, which fails exactly at planned calls.
+/// A source that gives bytes from memory. It fails exactly at the calls that its plan lists.
+///
+/// In contracts, a value is the bytes that are left, and the plan.
 #[derive(Drop)]
 pub struct MemSource {
     content: Vec<u8>,
@@ -31,7 +33,8 @@ impl Model for MemSource {
 }
 
 impl MemSource {
-    /// A source of these bytes whose calls with the listed numbers fail, counted from 0.
+    /// Makes a source of the bytes in `content`. Its calls whose numbers are in `fails` fail, where the first call
+    /// has number 0.
     pub fn new(content: Vec<u8>, fails: Vec<u64>) -> MemSource
         ensures { result ≡ record { left = content.items; plan = fresh fails.items } }
     {
@@ -50,7 +53,10 @@ impl Source for MemSource {
 
     ghost calls = { λ s. Some s.plan.calls };
 
-    /// Gives as much as fits into the buffer.
+    /// Copies the next bytes to the front of the buffer, as many as fit and are left, and returns how many.
+    ///
+    /// It is 0 exactly at the end, since the buffer must not be empty. `Failed` comes exactly if the plan lists the
+    /// number of this call. Then the buffer and the bytes left are unchanged, and one fault more is counted.
     fn read(&mut self, buf: &mut [u8]) -> Result<usize, Failed>
         requires { 0 < length buf.old }
         ensures planned { IsErr result ↔ Contains self.old.plan.fails self.old.plan.calls }
@@ -84,7 +90,10 @@ impl Source for MemSource {
     }
 }
 
-/// A sink over memory, which fails exactly at planned calls and where its room is full.
+/// A sink that keeps bytes in memory. It fails exactly at the calls that its plan lists, and when it is full.
+///
+/// In contracts, a value is the bytes written, the greatest piece that one call takes, the room for bytes in all,
+/// and the plan.
 #[derive(Drop)]
 pub struct MemSink {
     content: Vec<u8>,
@@ -111,8 +120,11 @@ impl Model for MemSink {
 }
 
 impl MemSink {
-    /// An empty sink with room for `room` bytes in all. It takes pieces of at most `most` bytes, which is at least 1.
-    /// Its calls with the listed numbers, counted from 0, fail. It reserves its room, so that no write takes memory.
+    /// Makes an empty sink with room for `room` bytes in all.
+    ///
+    /// One call takes at most `most` bytes, which must be at least 1. Calls whose numbers are in `fails` fail,
+    /// where the first call has number 0. All room is allocated here, so that no write allocates. The only error is
+    /// `AllocError`.
     pub fn new(
         alloc: Global,
         most: usize,
@@ -135,7 +147,7 @@ impl MemSink {
         })
     }
 
-    /// The bytes written so far.
+    /// Returns the bytes written so far.
     pub fn written(&self) -> &[u8]
         ensures { result.now ≡ self.now.written }
     {
@@ -150,7 +162,11 @@ impl Sink for MemSink {
 
     ghost calls = { λ s. Some s.plan.calls };
 
-    /// Takes as much of the piece as the greatest piece and the free room allow, and no memory.
+    /// Takes the first bytes of the piece, as many as `most` and the free room allow, and returns how many.
+    ///
+    /// It is at least 1, since the piece must not be empty. `Failed` comes exactly if the plan lists the number of this
+    /// call or the sink is full. Then the bytes written are unchanged, and one fault more is counted. The call does not
+    /// allocate.
     fn write(&mut self, bytes: &[u8]) -> Result<usize, Failed>
         requires { 0 < length bytes.now }
         ensures planned { IsErr result ↔ (Contains self.old.plan.fails self.old.plan.calls
@@ -186,7 +202,7 @@ impl Sink for MemSink {
     }
 }
 
-/// Puts as many of the bytes into the buffer as fit, and answers how many.
+/// Copies as many of the bytes as fit to the front of the buffer, and returns how many.
 fn put_front(buf: &mut [u8], bytes: &[u8]) -> usize
     ensures count { result ≡ min (length buf.old) (length bytes.now) }
     ensures put { buf.new ≡ take result bytes.now ++ drop result buf.old }

@@ -1,16 +1,20 @@
-//! Which calls of an object in memory fail, and how many did.
+//! Which calls of a source or a sink in memory fail, and how many faults were counted.
 ghost use Rattle.std.specs.Prelude.{◌≡◌, ◌≤◌, ◌^◌, ◌↔◌, Contains, IsTrue, unwrap_or};
 ghost use Rattle.pv_io.specs.Calls.{call_after};
 ghost use Rattle.pv_io.specs.Faults.{HasRisen, fault_after};
 ghost use Rattle.pv_io.specs.Memory.{fresh};
 
+use std::alloc::Global;
 use std::marker::Model;
 
-/// A plan of the calls that fail, the number of the next call, and a count of faults.
+/// Which calls are to fail, with the number of the next call and a count of faults.
+///
+/// In contracts, a value is these three: `calls` is the number of the next call, `fails` the listed numbers,
+/// `faults` the count.
 #[derive(Drop)]
-pub(crate) struct Plan {
+pub struct Plan {
     fails: Vec<u64>,
-    /// None past the last number in 64 bits, which no plan can list.
+    /// The number of the next call. It is `None` once all numbers of 64 bits are used up. No list has such a call.
     next: Option<u64>,
     faults: u64,
 }
@@ -29,8 +33,9 @@ impl Model for Plan {
 }
 
 impl Plan {
-    /// A plan before the first call.
-    pub(crate) fn new(fails: Vec<u64>) -> Plan
+    /// Makes a plan before the first call. The calls with these numbers are to fail, where the first call has
+    /// number 0.
+    pub fn new(fails: Vec<u64>) -> Plan
         ensures { result ≡ fresh fails.items }
     {
         Plan {
@@ -40,8 +45,15 @@ impl Plan {
         }
     }
 
-    /// Counts a call, and answers whether the plan lists its number.
-    pub(crate) fn begin_call(&mut self) -> bool
+    /// Returns the allocator of the list of numbers.
+    pub fn alloc(&self) -> Global {
+        *self.fails.allocator()
+    }
+
+    /// Counts one call, and returns whether the plan lists its number, so that the call is to fail.
+    ///
+    /// Numbers have 64 bits. A call past the greatest number is never listed.
+    pub fn begin_call(&mut self) -> bool
         ensures listed { IsTrue result ↔ Contains self.old.fails self.old.calls }
         ensures counted { self.new ≡ record self.old { calls = call_after self.old.calls } }
     {
@@ -50,8 +62,8 @@ impl Plan {
         is_listed(&self.fails, number)
     }
 
-    /// Counts a fault.
-    pub(crate) fn count_fault(&mut self)
+    /// Adds 1 to the count of faults, which stops at 2^64 - 1.
+    pub fn count_fault(&mut self)
         ensures counted { self.new ≡ record self.old { faults = fault_after self.old.faults } }
         ensures rises { HasRisen self.old.faults self.new.faults }
         ensures never_falls { self.old.faults ≤ self.new.faults }
@@ -60,14 +72,14 @@ impl Plan {
     }
 }
 
-/// The number of the call after the call with this number.
+/// Returns the number of the call after the one with this number.
 fn number_after(number: Option<u64>) -> Option<u64>
     ensures { unwrap_or result (2 ^ 64) ≡ call_after (unwrap_or number (2 ^ 64)) }
 {
     number?.checked_add(1)
 }
 
-/// Whether the list has the number.
+/// Returns whether the list has the number.
 fn is_listed(fails: &Vec<u64>, number: Option<u64>) -> bool
     ensures { IsTrue result ↔ Contains fails.now.items (unwrap_or number (2 ^ 64)) }
 {

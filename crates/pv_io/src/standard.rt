@@ -1,4 +1,4 @@
-//! The edge: a source and a sink over a reader and a writer of std.
+//! A source and a sink over the readers and writers of std, such as standard input and output.
 ghost use Rattle.std.specs.Prelude.{◌≡◌, ◌<◌, ◌≤◌, None, length, take, IfOk, OnErr};
 ghost use Rattle.std.specs.Io.KnownBytes.{Appends, Consumes, IsAtEnd, Keeps};
 
@@ -6,10 +6,10 @@ use crate::transfer::{Sink, Source};
 use crate::transfer_fault::Failed;
 use std::io::{self, ErrorKind, Read, Write};
 
-/// How often a read or a write is tried that a signal interrupts (signal(7)).
+/// How often a read or a write is tried if signals interrupt it (signal(7)).
 const MOST_TRIES: u32 = 1000;
 
-/// A read that is tried again as long as a signal interrupts it.
+/// Reads, and tries again if a signal interrupts the read.
 fn read_again<R: Read>(reader: &mut R, buf: &mut [u8]) -> io::Result<usize>
     requires { 0 < length buf.old }
     ensures fits { IfOk result (λ n. n ≤ length buf.new) }
@@ -26,7 +26,7 @@ fn read_again<R: Read>(reader: &mut R, buf: &mut [u8]) -> io::Result<usize>
     reader.read(buf)
 }
 
-/// A write that is tried again as long as a signal interrupts it.
+/// Writes, and tries again if a signal interrupts the write.
 fn write_again<W: Write>(writer: &mut W, bytes: &[u8]) -> io::Result<usize>
     ensures fits { IfOk result (λ n. n ≤ length bytes.now) }
     ensures takes { IfOk result (λ n. Appends (W.contents writer.old) (W.contents writer.new) (take n bytes.now)) }
@@ -41,9 +41,10 @@ fn write_again<W: Write>(writer: &mut W, bytes: &[u8]) -> io::Result<usize>
     writer.write(bytes)
 }
 
-/// A source over any reader, with a count of its faults. A read that a signal interrupts is tried again.
+/// A source over a reader of std, with a count of faults.
 ///
-/// It tells the bytes that the reader tells; standard input tells none.
+/// A read that a signal interrupts is tried again. At most 1,000 tries are made for a call, the first one included. In
+/// contracts, the bytes left are those of the reader, if they are known. Those of standard input are not known.
 #[derive(Drop)]
 pub struct StdSource<R: Read> {
     inner: R,
@@ -51,7 +52,7 @@ pub struct StdSource<R: Read> {
 }
 
 impl<R: Read> StdSource<R> {
-    /// A source over this reader, with no fault counted.
+    /// Makes a source over this reader, with no fault counted.
     pub fn new(inner: R) -> StdSource<R>
         ensures inner { result.inner ≡ inner }
         ensures faults { result.faults ≡ 0 }
@@ -78,9 +79,10 @@ impl<R: Read> Source for StdSource<R> {
     }
 }
 
-/// A sink over any writer, with a count of its faults. A write that a signal interrupts is tried again.
+/// A sink over a writer of std, with a count of faults.
 ///
-/// It tells the bytes that the writer tells; standard output tells none.
+/// A write that a signal interrupts is tried again. At most 1,000 tries are made for a call, the first one included. In
+/// contracts, the bytes written are those of the writer, if they are known. Those of standard output are not known.
 #[derive(Drop)]
 pub struct StdSink<W: Write> {
     inner: W,
@@ -88,7 +90,7 @@ pub struct StdSink<W: Write> {
 }
 
 impl<W: Write> StdSink<W> {
-    /// A sink over this writer, with no fault counted.
+    /// Makes a sink over this writer, with no fault counted.
     pub fn new(inner: W) -> StdSink<W>
         ensures inner { result.inner ≡ inner }
         ensures faults { result.faults ≡ 0 }

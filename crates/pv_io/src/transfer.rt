@@ -1,4 +1,4 @@
-//! What a source and a sink of bytes promise.
+//! What every source and every sink of bytes promises.
 ghost use Rattle.std.specs.Prelude.{◌≡◌, ◌<◌, ◌≤◌, ℕ, Option, List, length, take, IfOk, OnErr};
 ghost use Rattle.std.specs.Io.KnownBytes.{Appends, Consumes, IsAtEnd, Keeps};
 ghost use Rattle.pv_io.specs.Calls.{CountsCall};
@@ -6,20 +6,25 @@ ghost use Rattle.pv_io.specs.Faults.{HasRisen};
 
 use crate::transfer_fault::Failed;
 
-/// What gives bytes.
+/// Something that gives bytes, such as standard input.
 ///
-/// A source may tell the bytes that it has left and how many calls it has had, and it has a count
-/// of faults that never falls.
+/// A source counts its faults. The count never falls. A call is said to raise the count if the count is greater after
+/// the call, or is at its maximum, 2^64 - 1.
 pub trait Source {
+    /// In contracts: the bytes that are left, or `None` if they are not known.
     ghost left: { Self → Option (List ℕ) };
 
+    /// In contracts: the number of faults so far.
     ghost faults: { Self → ℕ };
 
+    /// In contracts: the number of reads so far, or `None` if they are not counted.
     ghost calls: { Self → Option ℕ };
 
-    /// Puts the next bytes at the front of the buffer, which is not empty, and answers how many. The answer is 0 only
-    /// at the end of the input. If the bytes left are known, it is always 0 there. `Failed` comes only if the count of
-    /// faults rose, and then no byte was taken.
+    /// Copies the next bytes to the front of the buffer, which must not be empty, and returns the number of these
+    /// bytes.
+    ///
+    /// This number is at most the length of the buffer. It is 0 only at the end of the input. If the bytes left are
+    /// known, it is always 0 at the end. `Failed` comes only if the count of faults rose. Then no byte was taken.
     fn read(&mut self, buf: &mut [u8]) -> Result<usize, Failed>
         requires { 0 < length buf.old }
         ensures fits { IfOk result (λ n. n ≤ length buf.new) }
@@ -31,22 +36,25 @@ pub trait Source {
         ensures counted { CountsCall (calls self.old) (calls self.new) };
 }
 
-/// What takes bytes.
+/// Something that takes bytes, such as standard output.
 ///
-/// A sink may tell the bytes written so far and how many calls it has had, and it has a count of
-/// faults that never falls.
+/// A sink counts its faults. The count never falls. A call is said to raise the count if the count is greater after the
+/// call, or is at its maximum, 2^64 - 1.
 pub trait Sink {
+    /// In contracts: the bytes written so far, or `None` if they are not known.
     ghost written: { Self → Option (List ℕ) };
 
+    /// In contracts: the number of faults so far.
     ghost faults: { Self → ℕ };
 
+    /// In contracts: the number of writes so far, or `None` if they are not counted.
     ghost calls: { Self → Option ℕ };
 
-    /// Takes bytes from the front of the piece, which is not empty, and answers how many: at least
-    /// one, and at most all.
+    /// Takes the first bytes of the piece, which must not be empty, and returns how many: at least 1, and at most
+    /// all of them.
     ///
-    /// `Failed` comes only if the count of faults rose, and then no byte was taken. A sink
-    /// whose device takes nothing counts a fault.
+    /// `Failed` comes only if the count of faults rose. Then no byte was taken. If a device takes no byte, that is
+    /// `Failed` too.
     fn write(&mut self, bytes: &[u8]) -> Result<usize, Failed>
         requires { 0 < length bytes.now }
         ensures some { IfOk result (λ n. 1 ≤ n) }

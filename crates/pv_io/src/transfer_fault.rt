@@ -1,25 +1,25 @@
-//! Why a transfer failed.
+//! Why a transfer of bytes failed.
 ghost use Rattle.std.specs.Prelude.{◌≡◌};
 ghost use Rattle.pv_io.specs.declared.transfer_fault.ReadAllFault.TheVariants.{Memory, ReadFault};
 
 use std::alloc::AllocError;
 use thiserror::Error;
 
-/// A read or a write failed, and the object counted a fault.
+/// A read or a write failed. The source or sink has counted a fault.
 #[derive(Clone, Copy, Debug, PartialEq, Eq, Error)]
 #[error("Failed")]
 pub struct Failed;
 
-/// Why a content was not read whole.
+/// Why the input was not read to its end.
 #[derive(Clone, Copy, Debug, PartialEq, Eq, Error)]
 pub enum ReadAllFault {
     /// A read failed: the source's count of faults rose.
     #[error("ReadFault")]
     ReadFault,
-    /// More bytes were given than [`MOST_BYTES`](crate::MOST_BYTES).
+    /// The source gave more than [`MOST_BYTES`](crate::MOST_BYTES) bytes.
     #[error("TooLong")]
     TooLong,
-    /// Memory ran out.
+    /// An allocation failed.
     #[error("Memory")]
     Memory,
 }

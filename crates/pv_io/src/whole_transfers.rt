@@ -1,24 +1,29 @@
-//! Whole transfers: all bytes of a source, all bytes into a sink.
+//! Transfers of all bytes: from a source to its end, and of a slice to a sink.
 ghost use Rattle.std.specs.Prelude.{◌≡◌, ◌<◌, ◌≤◌, ◌+◌, ◌++◌, ◌⊎◌, ℕ, List, length, nat_lt, IfOk, IfSome, OnOk, OnErr, IsErrOf};
 ghost use Rattle.std.specs.Io.KnownBytes.{Appends, Consumes, IsAtEnd};
 ghost use Rattle.pv_io.specs.Calls.{CountsAtMost, CountsCall};
 ghost use Rattle.pv_io.specs.Faults.{HasRisen};
-ghost use Rattle.pv_io.specs.Transfers.{AppendsFront, ConsumesFront};
+ghost use Rattle.pv_io.specs.Transfers.{AppendsPrefix, ConsumesPrefix};
 
 use crate::transfer::{Sink, Source};
 use crate::transfer_fault::{ReadAllFault, WriteFault};
 use std::alloc::Global;
 
-/// The most bytes that a content may have, 64 MiB.
+/// The most bytes that `read_all` reads from a source: 64 MiB.
 pub const MOST_BYTES: usize = 67_108_864;
 
-/// The bytes that one read asks for.
+/// How many bytes one read asks for.
 const PIECE: usize = 8192;
 
-/// Reads what the source has left, to its end.
+/// Reads all bytes that the source has left, to its end.
 ///
-/// `TooLong` comes exactly if more than [`MOST_BYTES`] bytes were given, and `ReadFault` only
-/// where the source's count of faults rose. It ends after at most `MOST_BYTES + 1` reads.
+/// If the answer is `Ok`, it has exactly these bytes, at most [`MOST_BYTES`], and the source is at its end.
+/// `TooLong` comes only if more than [`MOST_BYTES`] bytes were left. If more were left, then the answer is
+/// `TooLong` or `Memory`, or the source's count of faults rose. `ReadFault` comes only if that count rose. `Memory`
+/// means that an allocation failed.
+///
+/// The bytes taken are always a prefix of those left, even after an error. There are at most `MOST_BYTES + 1` reads.
+/// What is said here about bytes holds if the bytes left are known. Those of standard input are not known.
 pub fn read_all<S: Source>(alloc: Global, source: &mut S) -> Result<Vec<u8>, ReadAllFault>
     ensures ok { IfOk result (λ v. IfSome (S.left source.old) (λ xs. v.items ≡ xs)) }
     ensures end { OnOk result (IsAtEnd (S.left source.new)) }
@@ -32,7 +37,7 @@ pub fn read_all<S: Source>(alloc: Global, source: &mut S) -> Result<Vec<u8>, Rea
     ensures cause { IsErrOf result ReadAllFault.ReadFault →
         HasRisen (S.faults source.old) (S.faults source.new) }
     ensures never_falls { S.faults source.old ≤ S.faults source.new }
-    ensures front { ConsumesFront (S.left source.old) (S.left source.new) }
+    ensures prefix { ConsumesPrefix (S.left source.old) (S.left source.new) }
     ensures reads { CountsAtMost (MOST_BYTES + 1) (S.calls source.old) (S.calls source.new) }
 {
     let mut content = Vec::new(alloc);
@@ -48,14 +53,14 @@ pub fn read_all<S: Source>(alloc: Global, source: &mut S) -> Result<Vec<u8>, Rea
     unreachable!()
 }
 
-/// Whether a content has more bytes than it may have.
+/// Returns whether there are more bytes than [`MOST_BYTES`].
 fn is_too_long(content: &[u8]) -> bool
     ensures { result ≡ nat_lt MOST_BYTES (length content.now) }
 {
     content.len() > MOST_BYTES
 }
 
-/// Reads once, puts what came at the end of the content, and answers how many bytes came.
+/// Reads once, appends the bytes that came, and returns how many came.
 fn read_piece<S: Source>(source: &mut S, content: &mut Vec<u8>) -> Result<usize, ReadAllFault>
     ensures ok { IfOk result (λ n. (bs : List ℕ) × (length bs ≡ n)
         × Consumes (S.left source.old) (S.left source.new) bs
@@ -65,7 +70,7 @@ fn read_piece<S: Source>(source: &mut S, content: &mut Vec<u8>) -> Result<usize,
     ensures cause { IsErrOf result ReadAllFault.ReadFault →
         HasRisen (S.faults source.old) (S.faults source.new) }
     ensures never_falls { S.faults source.old ≤ S.faults source.new }
-    ensures front { ConsumesFront (S.left source.old) (S.left source.new) }
+    ensures prefix { ConsumesPrefix (S.left source.old) (S.left source.new) }
     ensures counted { CountsCall (S.calls source.old) (S.calls source.new) }
 {
     let mut piece = [0u8; PIECE];
@@ -74,12 +79,14 @@ fn read_piece<S: Source>(source: &mut S, content: &mut Vec<u8>) -> Result<usize,
     Ok(count)
 }
 
-/// Writes the bytes, and takes no memory. Each write is offered all bytes that are not yet written, so there is at most
-/// one write for each byte. `WriteFault` comes only if the sink's count of faults rose. Then a prefix of the bytes, and
-/// not all of them, is written.
+/// Writes all bytes to the sink.
+///
+/// Each write is offered all bytes that are not yet written, so there is at most one write for each byte. If the answer
+/// is `Ok`, exactly these bytes were appended. `WriteFault` comes only if the sink's count of faults rose. Then a
+/// prefix of the bytes, and not all of them, was appended. The call does not allocate.
 pub fn write_all_of<K: Sink>(sink: &mut K, bytes: &[u8]) -> Result<(), WriteFault>
     ensures ok { OnOk result (Appends (K.written sink.old) (K.written sink.new) bytes.now) }
-    ensures front { OnErr result (AppendsFront (K.written sink.old) (K.written sink.new) bytes.now) }
+    ensures prefix { OnErr result (AppendsPrefix (K.written sink.old) (K.written sink.new) bytes.now) }
     ensures cause { OnErr result (HasRisen (K.faults sink.old) (K.faults sink.new)) }
     ensures never_falls { K.faults sink.old ≤ K.faults sink.new }
     ensures writes { CountsAtMost (length bytes.now) (K.calls sink.old) (K.calls sink.new) }

@@ -309,9 +309,6 @@ has_names-prefix p q above names =
 pub has_names-drop : (i : ℕ) (p : Path) → has_names p ≡ true → has_names (drop i p) ≡ true
 has_names-drop i p e = (and_parts (has_names (take i p)) (has_names (drop i p)) (sym (has_names-append (take i p) (drop i p)) ∙ ap has_names (take-append-drop i p) ∙ e)).1
 
-pub has_names-parent_of : (p : Path) → has_names p ≡ true → has_names (parent_of p) ≡ true
-has_names-parent_of p = has_names-take (length p - 1) p
-
 pub has_names-rest : (p q r : Path) → rest_under p q ≡ Some r → has_names q ≡ true → has_names r ≡ true
 has_names-rest p q r e h = rw (← (rest_under-drop p q r e)) (has_names-drop (length p) q h)
 
@@ -322,14 +319,6 @@ is_name-last_name p n h e =
     (and_parts (is_name n) true last.1).0
 
 -- ---- staging names
-
-pub is_staging-staging_name : (n : List ℕ) → is_staging (staging_name n) ≡ true
-is_staging-staging_name n = refl
-
-pub is_name-staging_name : (n : List ℕ) → is_name n ≡ true → length n ≤ 250 → is_name (staging_name n) ≡ true
-is_name-staging_name n e l =
-    let u = is_name-parts n e in
-    is_name-from (staging_name n) (omega arith) (omega arith) u.2 refl
 
 pub staging_of-push : (p : Path) (n : List ℕ) → staging_of (p ++ n ∷ []) ≡ p ++ staging_name n ∷ []
 staging_of-push [] n = refl
@@ -359,15 +348,6 @@ has_staging-staging_of (n ∷ k ∷ p) other = let below : has_staging (staging_
 -- what extends a path with a staging name has one too
 pub has_staging-extends : (p q : Path) → is_prefix p q ≡ true → has_staging p ≡ true → has_staging q ≡ true
 has_staging-extends p q e h = let u = prefix_parts p q e in rw (u.1, has_staging-append, h)
-
-pub has_names-staging_of : (p : Path) (n : List ℕ) → has_names p ≡ true → last_name p ≡ Some n → length n ≤ 250 → has_names (staging_of p) ≡ true
-has_names-staging_of p n h e l =
-    let is : staging_of p ≡ parent_of p ++ staging_name n ∷ [] = ap staging_of (path_parts p n e) ∙ staging_of-push (parent_of p) n in
-    rw is (has_names-push (parent_of p) (staging_name n) (has_names-parent_of p h) (is_name-staging_name n (is_name-last_name p n h e) l))
-
--- the staging name of a path without one is another path
-pub staging_of-differs : (p : Path) → p ≢ [] → has_staging p ≡ false → staging_of p ≢ p
-staging_of-differs p other none e = let has = has_staging-staging_of p other in let same = ap has_staging e in cc
 
 -- ---- different paths
 

@@ -1,4 +1,5 @@
 pub mod Names
+pub mod Heads
 pub mod Paths
 pub mod Printing
 pub mod Parsing

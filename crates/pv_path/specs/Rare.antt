@@ -1,7 +1,7 @@
--- Where a list that is mostly empty lies. No public clause cites this module.
+-- Where a list that is usually empty keeps its items. No public clause cites this module.
 use Rattle.std.specs.Prelude.{List, [], Option, Some, None, Box, Vec}
 
--- the items: those that lie apart, if there are any
+-- The items of such a list. They are in memory of their own, if there are any.
 abbrev pub items_in : {T A B : Type 0} → Option (Box (Vec T A) B) → List T
 items_in None = []
 items_in (Some apart) = apart.value.items

@@ -1,4 +1,5 @@
-//! Names and paths of a tree, how they are read and printed, and the lists that hold them.
+//! Names and paths in a file tree: how they are read, compared and printed. Also the list types that other crates
+//! share.
 #![tactic(auto)]
 
 mod cutting;
@@ -22,14 +23,14 @@ pub use rare::RareList;
 pub use relate::{child, has_staging, is_prefix, names_under, parent, rebase, staging};
 pub use sequence::Sequence;
 
-/// Bytes: a content, a link's target, or a text.
+/// A list of bytes: the content of a file, the target of a symbolic link, or a text.
 pub type Bytes = Sequence<u8>;
 
-/// Names in some order.
+/// A list of names, in the order in which they were added.
 pub type NameList = Sequence<Name>;
 
-/// Words of a command line, as bytes.
+/// The arguments of a command line, in order, each as its bytes.
 pub type WordList = Sequence<Bytes>;
 
-/// Paths in some order.
+/// A list of paths, in the order in which they were added.
 pub type PathList = Sequence<TreePath>;

@@ -1,4 +1,4 @@
-//! Names: what stands between the slashes of a path (path_resolution(7)), and staging names.
+//! Names of directory entries, which are the components of a path (path_resolution(7)), and staging names.
 ghost use Rattle.std.specs.Prelude.{◌≡◌, ℕ, ◌≤◌, List, true, length, IfOk};
 ghost use Rattle.std.specs.Ordering.{nat_cmp, as_partial_cmp};
 ghost use Rattle.std.specs.Cmp.{partial_equiv_from_equiv};
@@ -6,6 +6,7 @@ ghost use Rattle.std.specs.Cmp.Lexicographic.{slice_cmp, nat_list_cmp_total, nat
 ghost use Rattle.std.specs.Hash as fed;
 ghost use Rattle.std.proofs.Common.{rules, refl};
 ghost use Rattle.std.specs.List.{list_all};
+ghost use Rattle.pv_path.specs.Heads.{head_of};
 ghost use Rattle.pv_path.specs.Names.{is_dots, is_name, is_name_byte, is_staging, staging_name, same_bytes};
 
 use crate::short_bytes::ShortBytes;
@@ -14,20 +15,23 @@ use std::cmp::Ordering;
 use std::hash::{Hash, Hasher};
 use std::marker::Model;
 
+/// Returns whether no byte is NUL or a slash.
 fn has_name_bytes(bytes: &[u8]) -> bool
     ensures { result ≡ list_all is_name_byte bytes.now }
 {
     bytes.iter().all(|b| *b != 0 && *b != b'/')
 }
 
+/// Returns whether the bytes are `.` or `..`, which name a directory itself and its parent.
 fn is_dots(bytes: &[u8]) -> bool
     ensures { result ≡ is_dots bytes.now }
 {
     matches!(bytes, b"." | b"..")
 }
 
-/// Whether a name may have these bytes: 1 to 255, without a slash and NUL, and neither `.` nor `..`. It takes
-/// no memory.
+/// Returns whether the bytes are a name: 1 to 255 bytes, none of them a slash or NUL, and neither `.` nor `..`.
+///
+/// A name is one component of a path (path_resolution(7)). The call does not allocate.
 pub fn is_name(bytes: &[u8]) -> bool
     ensures { result ≡ is_name bytes.now }
 {
@@ -36,15 +40,20 @@ pub fn is_name(bytes: &[u8]) -> bool
     !bytes.is_empty() && bytes.len() <= 255 && plain && !dots
 }
 
-/// Whether a name is a staging name, which belongs to the program. It takes no memory.
+/// Returns whether the bytes begin with `.#tf-`, which marks a staging name.
+///
+/// Staging names belong to the program: it makes a new object under such a name and then renames it into place. The
+/// call does not allocate.
 pub fn is_staging(name: &[u8]) -> bool
     ensures { result ≡ is_staging name.now }
 {
     name.starts_with(b".#tf-")
 }
 
-/// A name of a directory entry: 1 to 255 bytes without a slash and NUL, and neither `.` nor `..`.
-/// One of up to 16 bytes takes no memory of its own. Clauses see its bytes.
+/// A name of a directory entry: 1 to 255 bytes, none of them a slash or NUL, and neither `.` nor `..`.
+///
+/// A name of at most 16 bytes is kept inside of this value, without an allocation of its own. In contracts, a value
+/// is the list of its bytes. Names are ordered by their bytes.
 #[derive(Drop)]
 pub struct Name {
     bytes: ShortBytes,
@@ -59,7 +68,9 @@ impl Model for Name {
 }
 
 impl Name {
-    /// The name of these bytes, copied.
+    /// Makes a name from a copy of the bytes.
+    ///
+    /// The bytes must be a name, as `is_name` tests. The only error is `AllocError`.
     pub fn of(alloc: Global, bytes: &[u8]) -> Result<Name, AllocError>
         requires { is_name bytes.now ≡ true }
         ensures { IfOk result (λ name. name ≡ bytes.now) }
@@ -69,7 +80,7 @@ impl Name {
         })
     }
 
-    /// The bytes of the name.
+    /// Returns the bytes of the name.
     pub fn bytes(&self) -> &[u8]
         ensures value { result.now ≡ self.now }
         ensures name { is_name self.now ≡ true }
@@ -77,7 +88,15 @@ impl Name {
         self.bytes.as_slice()
     }
 
-    /// A copy of the name.
+    /// Returns the first eight bytes of the name as one big-endian number. If the name is shorter, zeros follow.
+    pub fn head(&self) -> u64
+        ensures value { result ≡ head_of self.now }
+        ensures name { is_name self.now ≡ true }
+    {
+        self.bytes.head()
+    }
+
+    /// Returns a copy of the name. The only error is `AllocError`.
     pub fn copy(&self) -> Result<Name, AllocError>
         ensures { IfOk result (λ name. name ≡ self.now) }
     {
@@ -86,7 +105,10 @@ impl Name {
         })
     }
 
-    /// The staging name for this name.
+    /// Returns the staging name for this name: `.#tf-` and then the name.
+    ///
+    /// The name must have at most 250 bytes, because the staging name is 5 bytes longer, and a name has at most 255.
+    /// The only error is `AllocError`. For example, the staging name for `a.conf` is `.#tf-a.conf`.
     pub fn staging(&self, alloc: Global) -> Result<Name, AllocError>
         requires { length self.now ≤ 250 }
         ensures { IfOk result (λ name. name ≡ staging_name self.now) }

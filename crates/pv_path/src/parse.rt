@@ -1,4 +1,4 @@
-//! From a text to the path that it spells, or its first fault.
+//! Reads the path that a text spells, or finds its first fault.
 ghost use Rattle.std.specs.Prelude.{◌≡◌, ◌==◌, true, OnOk, IfErr};
 ghost use Rattle.std.specs.List.{list_all, slice_split};
 ghost use Rattle.pv_path.specs.Names.{is_name_byte};
@@ -16,8 +16,19 @@ const MOST_NAME_BYTES: usize = 240;
 /// The longest text that may spell a path, in bytes.
 const MOST_TEXT_BYTES: usize = 4095;
 
-/// The path that a text spells, or the first fault in the order of `PathFault`.
-/// Slashes in a row count as one, and a last slash is dropped.
+/// Reads an absolute path from a text, such as a field of a configuration line or an argument of the command line.
+///
+/// Several slashes in a row count as one, and slashes at the end are dropped (path_resolution(7)). For example,
+/// `b"//etc/tmpfiles.d/"` gives the path of the two names `etc` and `tmpfiles.d`, and `b"/"` gives the root.
+///
+/// An error is the first of these that applies:
+///
+/// - `NotAbsolute` if the text does not begin with a slash, `BadByte` if it has a NUL, or `PathTooLong` if it has
+///   more than 4,095 bytes;
+/// - for the first faulty component from the left, `DotComponent` if it is `.` or `..`, `NameTooLong` if it has
+///   more than 240 bytes, or `StagingName` if it begins with `.#tf-`.
+///
+/// `Memory` may come instead if an allocation fails.
 pub fn parse_path(alloc: Global, text: &[u8]) -> Result<TreePath, PathFault>
     ensures { Gives result (path_of text.now) }
 {
@@ -33,13 +44,14 @@ pub fn parse_path(alloc: Global, text: &[u8]) -> Result<TreePath, PathFault>
     parse_names(alloc, text)
 }
 
+/// Returns whether the text has no NUL.
 fn has_path_bytes(text: &[u8]) -> bool
     ensures { result ≡ list_all is_path_byte text.now }
 {
     text.iter().all(|b| *b != 0)
 }
 
-/// The names between the slashes of a text without NUL.
+/// Reads the names between the slashes of a text without NUL.
 fn parse_names(alloc: Global, text: &[u8]) -> Result<TreePath, PathFault>
     requires { list_all is_path_byte text.now ≡ true }
     ensures { Gives result (names_of (slice_split (λ b. b == 47) text.now)) }
@@ -52,7 +64,7 @@ fn parse_names(alloc: Global, text: &[u8]) -> Result<TreePath, PathFault>
     Ok(path)
 }
 
-/// Adds what stands between two slashes to a path.
+/// Adds the component between two slashes to a path. An empty one adds nothing.
 fn add_piece(alloc: Global, path: &mut TreePath, piece: &[u8]) -> Result<(), PathFault>
     requires { list_all is_name_byte piece.now ≡ true }
     ensures ok { OnOk result (joined (Ok path.old) (piece_of piece.now) ≡ Ok path.new) }

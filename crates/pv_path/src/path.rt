@@ -16,7 +16,7 @@ use std::cmp::Ordering;
 use std::hash::{Hash, Hasher};
 use std::marker::Model;
 
-/// A copy of names, with room for so many more.
+/// Returns a copy of the names in a vector with room for `more` further names.
 fn with_room(alloc: Global, names: &[Name], more: usize) -> Result<Vec<Name>, AllocError>
     ensures { IfOk result (λ copy. copy.items ≡ names.now) }
 {
@@ -25,14 +25,17 @@ fn with_room(alloc: Global, names: &[Name], more: usize) -> Result<Vec<Name>, Al
     Ok(copy)
 }
 
-/// Adds copies of names.
+/// Adds copies of the names `more` at the end.
 fn add_copies(names: &mut Vec<Name>, more: &[Name]) -> Result<(), AllocError>
     ensures { OnOk result (names.new.items ≡ names.old.items ++ more.now) }
 {
     names.extend_with_clones(more)
 }
 
-/// A path of a tree: its names from the root, which is the empty list. Clauses see the list of names.
+/// A path in a file tree: the list of its names from the root on. The empty list is the root.
+///
+/// In contracts, a value is the list of names, each as the list of its bytes. Paths are ordered name by name, names
+/// by their bytes, and a prefix comes before the paths that extend it.
 #[derive(Clone, Drop)]
 pub struct TreePath {
     names: Vec<Name>,
@@ -47,7 +50,7 @@ impl Model for TreePath {
 }
 
 impl TreePath {
-    /// The root. It takes no memory.
+    /// Returns the path of the root, which has no names. The call does not allocate.
     pub fn root(alloc: Global) -> TreePath
         ensures { result ≡ [] }
     {
@@ -56,7 +59,8 @@ impl TreePath {
         }
     }
 
-    /// The path of these names, copied.
+    /// Makes a path from a copy of the names, the first of them directly below the root. The only error is
+    /// `AllocError`.
     pub fn of(alloc: Global, names: &[Name]) -> Result<TreePath, AllocError>
         requires { has_names names.now ≡ true }
         ensures { IfOk result (λ path. path ≡ names.now) }
@@ -66,7 +70,7 @@ impl TreePath {
         })
     }
 
-    /// How many names the path has.
+    /// Returns the number of names. The root has 0.
     pub fn len(&self) -> usize
         ensures count { result ≡ length self.now }
         ensures names { has_names self.now ≡ true }
@@ -74,28 +78,29 @@ impl TreePath {
         self.names.len()
     }
 
-    /// Whether the path is the root.
+    /// Returns whether the path is the root.
     pub fn is_empty(&self) -> bool
         ensures { IsTrue result ↔ (self.now ≡ []) }
     {
         self.names.is_empty()
     }
 
-    /// The name at an index counted from 0 below the root, or nothing past the end.
+    /// Returns the name at an index, where 0 is the name directly below the root. Returns `None` past the last
+    /// name.
     pub fn get(&self, i: usize) -> Option<&Name>
         ensures { option_copied result ≡ slice_get self.now i }
     {
         self.names.get(i)
     }
 
-    /// The last name, or nothing for the root.
+    /// Returns the last name of the path, or `None` for the root.
     pub fn name(&self) -> Option<&Name>
         ensures { option_copied result ≡ last_name self.now }
     {
         self.names.last()
     }
 
-    /// The names as a slice.
+    /// Returns the names as a slice, the first of them directly below the root.
     pub fn names(&self) -> &[Name]
         ensures value { result.now ≡ self.now }
         ensures names { has_names self.now ≡ true }
@@ -103,7 +108,9 @@ impl TreePath {
         self.names.as_slice()
     }
 
-    /// Adds a name at the end. After running out of memory the path is as before.
+    /// Adds a name at the end, so that the path goes one level deeper.
+    ///
+    /// The only error is `AllocError`, and then the path is unchanged.
     pub fn push(&mut self, name: Name) -> Result<(), AllocError>
         ensures ok { OnOk result (self.new ≡ self.old ++ name ∷ []) }
         ensures err { OnErr result (self.new ≡ self.old) }
@@ -113,7 +120,7 @@ impl TreePath {
         Ok(())
     }
 
-    /// The path of these names, copied, and a last one, which is taken over.
+    /// Makes a path from a copy of the names and a last name, which is moved in.
     pub(crate) fn ending(alloc: Global, names: &[Name], last: Name) -> Result<TreePath, AllocError>
         requires { has_names names.now ≡ true }
         ensures { IfOk result (λ path. path ≡ names.now ++ last ∷ []) }
@@ -124,21 +131,21 @@ impl TreePath {
         Ok(TreePath { names })
     }
 
-    /// The path followed by a name, which is taken over.
+    /// Returns this path followed by one more name, which is moved in. The only error is `AllocError`.
     pub fn join(&self, name: Name) -> Result<TreePath, AllocError>
         ensures { IfOk result (λ path. path ≡ self.now ++ name ∷ []) }
     {
         TreePath::ending(*self.names.allocator(), &self.names, name)
     }
 
-    /// A copy of the path.
+    /// Returns a copy of the path. The only error is `AllocError`.
     pub fn copy(&self) -> Result<TreePath, AllocError>
         ensures { IfOk result (λ path. path ≡ self.now) }
     {
         self.clone()
     }
 
-    /// The path followed by further names.
+    /// Returns this path followed by copies of further names. The only error is `AllocError`.
     pub fn followed_by(&self, names: &[Name]) -> Result<TreePath, AllocError>
         requires { has_names names.now ≡ true }
         ensures { IfOk result (λ path. path ≡ self.now ++ names.now) }
@@ -148,7 +155,9 @@ impl TreePath {
         Ok(TreePath { names: all })
     }
 
-    /// How the path stands to another in the order of paths.
+    /// Compares two paths name by name, and names by their bytes. A prefix is less than a path that extends it.
+    ///
+    /// This is the order of `Ord`. For example, `/a` comes before `/a/b`, and `/a/b` comes before `/a.d`.
     pub fn order(&self, other: &TreePath) -> Ordering
         ensures { result ≡ path_cmp self.now other.now }
     {

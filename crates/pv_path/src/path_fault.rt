@@ -1,32 +1,34 @@
-//! Why a text spells no path.
+//! Why a text is not a path.
 ghost use Rattle.std.specs.Prelude.{◌≡◌};
 ghost use Rattle.pv_path.specs.declared.path_fault.PathFault.TheVariants.{Memory};
 
 use std::alloc::AllocError;
 use thiserror::Error;
 
-/// Why a text is not a path, in the order in which the checks are made.
+/// Why a text is not a path. The variants are in the order of the checks. The faults of a single component (the last
+/// three before `Memory`) are looked for component by component, from the left.
 #[derive(Clone, Copy, Debug, PartialEq, Eq, Error)]
 pub enum PathFault {
     /// The text does not begin with a slash.
     #[error("NotAbsolute")]
     NotAbsolute,
-    /// The text has a NUL.
+    /// The text has a NUL byte.
     #[error("BadByte")]
     BadByte,
-    /// The text has more than 4095 bytes.
+    /// The text has more than 4,095 bytes.
     #[error("PathTooLong")]
     PathTooLong,
-    /// A name is `.` or `..`.
+    /// A component is `.` or `..`.
     #[error("DotComponent")]
     DotComponent,
-    /// A name has more than 240 bytes.
+    /// A component has more than 240 bytes. A name in a tree may have 255, but its staging name, which is longer, must
+    /// be a name too.
     #[error("NameTooLong")]
     NameTooLong,
-    /// A name is a staging name, which belongs to the program.
+    /// A component begins with `.#tf-`, so it is a staging name, which belongs to the program.
     #[error("StagingName")]
     StagingName,
-    /// Memory ran out.
+    /// An allocation failed.
     #[error("Memory")]
     Memory,
 }

@@ -1,4 +1,4 @@
-//! Bytes and paths as images and messages print them.
+//! Prints bytes and paths as tree images and messages have them.
 ghost use Rattle.std.specs.Prelude.{◌≡◌, ℕ, ◌<◌, ◌≤◌, ◌++◌, length, take, drop, OnOk, IfOk};
 ghost use Rattle.std.specs.List.{prefix_len};
 ghost use Rattle.pv_path.specs.Printing.{hex_digit, is_plain_but, printed, printed_by, printed_byte_by, printed_path};
@@ -6,7 +6,11 @@ ghost use Rattle.pv_path.specs.Printing.{hex_digit, is_plain_but, printed, print
 use crate::path::TreePath;
 use std::alloc::{AllocError, Global};
 
-/// A path as images and messages print it: `/` for the root, otherwise `/` and the printed name for each name.
+/// Prints a path as tree images and messages have it: a slash and the printed name for each name, or `/` for the
+/// root.
+///
+/// Names are printed as `print_bytes` does. For example, a name `a b` below the root gives `/a\x20b`. The only
+/// error is `AllocError`.
 pub fn print_path(alloc: Global, path: &TreePath) -> Result<Vec<u8>, AllocError>
     ensures { IfOk result (λ text. text.items ≡ printed_path path.now) }
 {
@@ -21,8 +25,10 @@ pub fn print_path(alloc: Global, path: &TreePath) -> Result<Vec<u8>, AllocError>
     Ok(text)
 }
 
-/// Prints bytes as images and messages have them. Bytes from 0x21 to 0x7E other than the backslash stand as they are.
-/// Every other byte is `\x` and two lower case hexadecimal digits.
+/// Prints bytes as tree images and messages have them.
+///
+/// Bytes from 0x21 to 0x7E other than the backslash are printed as themselves. Every other byte, including a space, is
+/// printed as `\x` and two lower-case hexadecimal digits. The only error is `AllocError`.
 pub fn print_bytes(alloc: Global, bytes: &[u8]) -> Result<Vec<u8>, AllocError>
     ensures { IfOk result (λ text. text.items ≡ printed bytes.now) }
 {
@@ -31,14 +37,19 @@ pub fn print_bytes(alloc: Global, bytes: &[u8]) -> Result<Vec<u8>, AllocError>
     Ok(text)
 }
 
-/// Adds bytes to a text, as `print_bytes` prints them.
+/// Appends bytes to a text, printed as `print_bytes` does.
+///
+/// The only error is `AllocError`. What `text` holds after an error is not specified.
 pub fn add_printed(text: &mut Vec<u8>, bytes: &[u8]) -> Result<(), AllocError>
     ensures { OnOk result (text.new.items ≡ text.old.items ++ printed bytes.now) }
 {
     add_printed_but(text, bytes, b"")
 }
 
-/// Adds bytes to a text, as `print_bytes` prints them, but with some more bytes as `\x` and two digits.
+/// Appends bytes to a text as `print_bytes` prints them, except that each byte in `hidden` is printed as `\x` and
+/// two digits.
+///
+/// The only error is `AllocError`. What `text` holds after an error is not specified.
 pub fn add_printed_but(text: &mut Vec<u8>, bytes: &[u8], hidden: &[u8]) -> Result<(), AllocError>
     ensures { OnOk result (text.new.items ≡ text.old.items ++ printed_by (is_plain_but hidden.now) bytes.now) }
 {
@@ -50,7 +61,10 @@ pub fn add_printed_but(text: &mut Vec<u8>, bytes: &[u8], hidden: &[u8]) -> Resul
     Ok(())
 }
 
-/// Adds the first bytes, up to one that is not printed as itself, to a text, and hands the other bytes out.
+/// Appends the longest prefix of `bytes` in which each byte is printed as itself, and returns the bytes after it.
+///
+/// A byte is printed as itself if `is_plain` holds for it with the same `hidden` bytes. The only error is `AllocError`.
+/// What `text` holds after an error is not specified.
 pub fn add_plain<'a>(
     text: &mut Vec<u8>,
     bytes: &'a [u8],
@@ -66,7 +80,7 @@ pub fn add_plain<'a>(
     Ok(&bytes[count..])
 }
 
-/// How many of the first bytes are printed as themselves.
+/// Returns the length of the longest prefix in which each byte is printed as itself.
 fn plain_count(bytes: &[u8], hidden: &[u8]) -> usize
     ensures count { result ≡ prefix_len (is_plain_but hidden.now) bytes.now }
     ensures within { result ≤ length bytes.now }
@@ -74,14 +88,17 @@ fn plain_count(bytes: &[u8], hidden: &[u8]) -> usize
     bytes.iter().take_while(|b| is_plain(**b, hidden)).count()
 }
 
-/// Whether a byte is printed as itself where some more bytes are not. It takes no memory.
+/// Returns whether a byte is printed as itself: it is 0x21 to 0x7E, not a backslash, and not one of the bytes in
+/// `hidden`.
+///
+/// The call does not allocate.
 pub fn is_plain(byte: u8, hidden: &[u8]) -> bool
     ensures { result ≡ is_plain_but hidden.now byte }
 {
     matches!(byte, 0x21..=0x7e) && byte != b'\\' && !hidden.contains(&byte)
 }
 
-/// Adds one printed byte to a text.
+/// Appends one printed byte to a text.
 fn add_printed_byte(text: &mut Vec<u8>, byte: u8, hidden: &[u8]) -> Result<(), AllocError>
     ensures { OnOk result (text.new.items ≡ text.old.items ++ printed_byte_by (is_plain_but hidden.now) byte) }
 {
@@ -93,7 +110,7 @@ fn add_printed_byte(text: &mut Vec<u8>, byte: u8, hidden: &[u8]) -> Result<(), A
     Ok(())
 }
 
-/// A number below 16 as a lower case hexadecimal digit.
+/// Returns the lower-case hexadecimal digit of a number below 16.
 fn hex_digit(digit: u8) -> u8
     requires { digit < 16 }
     ensures { result ≡ hex_digit digit }

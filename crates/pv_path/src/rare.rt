@@ -1,4 +1,5 @@
-//! Lists that are empty for most objects: they take two words in place, and lie apart if they have items.
+//! Lists that are empty for most objects. An empty one is two words long, and items are kept in a separate
+//! allocation.
 ghost use Rattle.std.specs.Prelude.{◌≡◌, ◌<◌, ◌≤◌, [], ◌∷◌, ◌++◌, length, set, OnOk, OnErr, IfOk};
 ghost use Rattle.std.specs.List.{AllZip, insert};
 ghost use Rattle.std.specs.Cmp.Lexicographic.{pointwise, lists_per, lists_equiv};
@@ -6,8 +7,9 @@ ghost use Rattle.std.specs.Cmp.Lexicographic.{pointwise, lists_per, lists_equiv}
 use std::alloc::{AllocError, Global};
 use std::marker::Model;
 
-/// A list for what most objects have none of. The empty list takes two words and no memory of its own. Clauses see the
-/// list of items.
+/// A list that is empty for most objects. An empty one takes two machine words and no allocation.
+///
+/// In contracts, a value is the list of its items.
 #[derive(Drop)]
 pub struct RareList<T> {
     alloc: Global,
@@ -24,14 +26,14 @@ impl<T> Model for RareList<T> {
 }
 
 impl<T> RareList<T> {
-    /// The empty list. It takes no memory.
+    /// Returns the empty list. The call does not allocate.
     pub fn new(alloc: Global) -> Self
         ensures { result ≡ [] }
     {
         RareList { alloc, items: None }
     }
 
-    /// The items as a slice. It takes no memory.
+    /// Returns the items as a slice. The call does not allocate.
     pub fn as_slice(&self) -> &[T]
         ensures { result.now ≡ self.now }
     {
@@ -43,7 +45,7 @@ impl<T> RareList<T> {
 }
 
 impl<T: Drop> RareList<T> {
-    /// Adds an item at the end. After running out of memory the list is as before.
+    /// Adds an item at the end. The only error is `AllocError`, and then the list is unchanged.
     pub fn push(&mut self, item: T) -> Result<(), AllocError>
         ensures ok { OnOk result (self.new ≡ self.old ++ item ∷ []) }
         ensures err { OnErr result (self.new ≡ self.old) }
@@ -55,7 +57,9 @@ impl<T: Drop> RareList<T> {
         Ok(())
     }
 
-    /// Puts an item at an index, before the items from there on. After running out of memory the list is as before.
+    /// Inserts an item at an index counted from 0, and moves the items from there on one index up.
+    ///
+    /// The index must be at most the length. The only error is `AllocError`, and then the list is unchanged.
     pub fn insert(&mut self, at: usize, item: T) -> Result<(), AllocError>
         requires { at ≤ length self.old }
         ensures ok { OnOk result (self.new ≡ insert self.old at item) }
@@ -68,7 +72,7 @@ impl<T: Drop> RareList<T> {
         Ok(())
     }
 
-    /// Puts an item in place of the one at an index. It takes no memory.
+    /// Replaces the item at an index counted from 0, which must be below the length. The call does not allocate.
     pub fn set(&mut self, at: usize, item: T)
         requires { at < length self.old }
         ensures { self.new ≡ set self.old at item }
@@ -80,7 +84,7 @@ impl<T: Drop> RareList<T> {
     }
 }
 
-/// A list of one item, apart.
+/// Returns a list of one item, in an allocation of its own.
 fn one_item<T: Drop>(alloc: Global, item: T) -> Result<Box<Vec<T>>, AllocError>
     ensures { IfOk result (λ items. items.value.items ≡ item ∷ []) }
 {
@@ -89,7 +93,7 @@ fn one_item<T: Drop>(alloc: Global, item: T) -> Result<Box<Vec<T>>, AllocError>
     Ok(Box::new(alloc, items)?)
 }
 
-/// A copy of items, apart.
+/// Returns a copy of the items, in an allocation of its own.
 fn apart<T: Clone>(alloc: Global, items: &Vec<T>) -> Result<Box<Vec<T>>, AllocError>
     ensures { IfOk result (λ copy. AllZip T.is_clone items.now.items copy.value.items) }
 {

@@ -1,4 +1,4 @@
-//! How paths lie to each other: parent, child, prefix, staging name, and where a moved path goes.
+//! Relations between paths: parent, child, prefix and staging path, and the new path of an object that is moved.
 ghost use Rattle.std.specs.Prelude.{◌≡◌, ◌≢◌, ℕ, List, ◌≤◌, [], ◌∷◌, ◌++◌, true, length, Some, map, IsNone, IfSome, IfOk, ◌↔◌};
 ghost use Rattle.std.specs.Option.{option_map};
 ghost use Rattle.pv_path.specs.Names.{is_name};
@@ -8,7 +8,9 @@ use crate::name::{Name, is_staging};
 use crate::path::TreePath;
 use std::alloc::{AllocError, Global};
 
-/// The path of the directory that a path lies in, or nothing for the root.
+/// Returns the path without its last name, which is the path of the directory that holds the object.
+///
+/// It is `None` exactly for the root. The only error is `AllocError`.
 pub fn parent(alloc: Global, path: &TreePath) -> Result<Option<TreePath>, AllocError>
     ensures root { IfOk result (λ up. IsNone up ↔ (path.now ≡ [])) }
     ensures above { IfOk result (λ up. IfSome up (λ dir. dir ≡ parent_of path.now)) }
@@ -19,7 +21,10 @@ pub fn parent(alloc: Global, path: &TreePath) -> Result<Option<TreePath>, AllocE
     }
 }
 
-/// A path followed by a name. The name may be a staging name.
+/// Returns the path of the entry `name` in the directory at `path`.
+///
+/// `name` must be a name, as `is_name` tests. It may be a staging name. The only error is `AllocError`. For example,
+/// the child `passwd` of `/etc` is `/etc/passwd`.
 pub fn child(alloc: Global, path: &TreePath, name: &[u8]) -> Result<TreePath, AllocError>
     requires { is_name name.now ≡ true }
     ensures { IfOk result (λ below. below ≡ path.now ++ name.now ∷ []) }
@@ -27,15 +32,19 @@ pub fn child(alloc: Global, path: &TreePath, name: &[u8]) -> Result<TreePath, Al
     path.join(Name::of(alloc, name)?)
 }
 
-/// Whether the first path is a prefix of the second, which it is of itself too. It takes no memory.
+/// Returns whether path `a` is a prefix of path `b`: the names of `b` begin with all names of `a`.
+///
+/// Each path is a prefix of itself, and the root is a prefix of every path. `/a` is not a prefix of `/ab`. The call
+/// does not allocate.
 pub fn is_prefix(a: &TreePath, b: &TreePath) -> bool
     ensures { result ≡ is_prefix a.now b.now }
 {
     names_under(a.names(), b.names()).is_some()
 }
 
-/// The names that follow a prefix in a path, or nothing if the path does not begin so.
-/// It takes no memory.
+/// Returns the names of `path` that follow `prefix`, or `None` if `path` does not begin with `prefix`.
+///
+/// The slice is empty if both are the same. The call does not allocate.
 pub fn names_under<'a>(prefix: &[Name], path: &'a [Name]) -> Option<&'a [Name]>
     ensures { option_map (λ s. s.now) result ≡ rest_under prefix.now path.now }
 {
@@ -54,15 +63,18 @@ pub fn names_under<'a>(prefix: &[Name], path: &'a [Name]) -> Option<&'a [Name]>
     }
 }
 
-/// Whether some name of a path is a staging name. It takes no memory.
+/// Returns whether at least one name of the path is a staging name. The call does not allocate.
 pub fn has_staging(path: &TreePath) -> bool
     ensures { result ≡ has_staging path.now }
 {
     path.names().iter().any(|name| is_staging(name.bytes()))
 }
 
-/// The path at which an object is made before it gets its own name: the same directory, and the
-/// staging name for the last name.
+/// Returns the path at which a new object is made before it is renamed to `path` (rename(2)).
+///
+/// It is `path` with its last name replaced by the staging name for it, so it is in the same directory. `path` must not
+/// be the root, and its last name must have at most 250 bytes. The only error is `AllocError`. For example, the staging
+/// path of `/etc/motd` is `/etc/.#tf-motd`.
 pub fn staging(alloc: Global, path: &TreePath) -> Result<TreePath, AllocError>
     requires short { (n : List ℕ) → last_name path.now ≡ Some n → length n ≤ 250 }
     requires not_root { path.now ≢ [] }
@@ -74,8 +86,10 @@ pub fn staging(alloc: Global, path: &TreePath) -> Result<TreePath, AllocError>
     }
 }
 
-/// Where a path goes when the directory that it begins with is moved: what follows `from` in the
-/// path, after `to`.
+/// Returns where the object at `path` is after the directory at `from` was moved to `to`.
+///
+/// It is `to` followed by the names of `path` after `from`. `from` must be a prefix of `path`. The only error is
+/// `AllocError`. For example, `/a/b/c` with `/a/b` moved to `/d` is `/d/c`.
 pub fn rebase(
     alloc: Global,
     path: &TreePath,

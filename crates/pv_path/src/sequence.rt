@@ -1,4 +1,4 @@
-//! The list type of all crates, which clauses see as a list.
+//! The list type that all crates share.
 ghost use Rattle.std.specs.Prelude.{◌≡◌, ◌↔◌, List, [], ◌∷◌, ◌++◌, length, IsTrue, OnOk, OnErr, IfOk, slice_get};
 ghost use Rattle.std.specs.List.{AllZip};
 ghost use Rattle.std.specs.Option.{option_copied};
@@ -8,7 +8,9 @@ ghost use Rattle.pv_path.specs.Names.{same_bytes};
 use std::alloc::{AllocError, Global};
 use std::marker::Model;
 
-/// A list that grows at its end. Clauses see the list of its items.
+/// A list that grows at its end.
+///
+/// In contracts, a value is the list of its items.
 #[derive(Drop)]
 pub struct Sequence<T> {
     items: Vec<T>,
@@ -21,7 +23,7 @@ impl<T> Model for Sequence<T> {
 }
 
 impl<T> Sequence<T> {
-    /// The empty list. It takes no memory.
+    /// Returns the empty list. The call does not allocate.
     pub fn new(alloc: Global) -> Self
         ensures { result ≡ [] }
     {
@@ -30,14 +32,14 @@ impl<T> Sequence<T> {
         }
     }
 
-    /// The list of a vector's items. It takes no memory.
+    /// Makes a list from the items of a vector, in the same order. The call does not allocate.
     pub fn from_vec(items: Vec<T>) -> Self
         ensures { result ≡ items.items }
     {
         Sequence { items }
     }
 
-    /// The items as a vector. It takes no memory.
+    /// Returns the items as a vector, in the same order. The call does not allocate.
     pub fn into_vec(self) -> Vec<T>
         ensures { result.items ≡ self }
     {
@@ -45,28 +47,28 @@ impl<T> Sequence<T> {
         items
     }
 
-    /// How many items there are.
+    /// Returns the number of items.
     pub fn len(&self) -> usize
         ensures { result ≡ length self.now }
     {
         self.items.len()
     }
 
-    /// Whether there is no item.
+    /// Returns whether there are no items.
     pub fn is_empty(&self) -> bool
         ensures { IsTrue result ↔ (self.now ≡ []) }
     {
         self.items.is_empty()
     }
 
-    /// The item at an index counted from 0, or nothing past the end.
+    /// Returns the item at an index counted from 0, or `None` past the last item.
     pub fn get(&self, i: usize) -> Option<&T>
         ensures { option_copied result ≡ slice_get self.now i }
     {
         self.items.get(i)
     }
 
-    /// The items as a slice.
+    /// Returns the items as a slice.
     pub fn as_slice(&self) -> &[T]
         ensures { result.now ≡ self.now }
     {
@@ -75,7 +77,7 @@ impl<T> Sequence<T> {
 }
 
 impl<T: Drop> Sequence<T> {
-    /// Adds an item at the end. After running out of memory the list is as before.
+    /// Adds an item at the end. The only error is `AllocError`, and then the list is unchanged.
     pub fn push(&mut self, item: T) -> Result<(), AllocError>
         ensures ok { OnOk result (self.new ≡ self.old ++ item ∷ []) }
         ensures err { OnErr result (self.new ≡ self.old) }
@@ -86,7 +88,7 @@ impl<T: Drop> Sequence<T> {
 }
 
 impl Sequence<u8> {
-    /// The bytes of a slice, copied.
+    /// Makes a list from a copy of the bytes. The only error is `AllocError`.
     pub fn copy_of(alloc: Global, bytes: &[u8]) -> Result<Self, AllocError>
         ensures { IfOk result (λ copy. copy ≡ bytes.now) }
     {
@@ -95,7 +97,7 @@ impl Sequence<u8> {
         })
     }
 
-    /// A copy of the bytes.
+    /// Returns a copy of the bytes. The only error is `AllocError`.
     pub fn copy(&self) -> Result<Self, AllocError>
         ensures { IfOk result (λ copy. copy ≡ self.now) }
     {
@@ -104,7 +106,7 @@ impl Sequence<u8> {
         })
     }
 
-    /// Whether the bytes are those of another list.
+    /// Returns whether both lists have the same bytes in the same order.
     pub fn is_same(&self, other: &Self) -> bool
         ensures { result ≡ same_bytes self.now other.now }
     {

@@ -1,19 +1,21 @@
-//! Bytes of which few lie in place.
+//! Byte strings. One of at most 16 bytes needs no allocation.
 ghost use Rattle.std.specs.Prelude.{◌≡◌, ◌≤◌, length, IfOk};
+ghost use Rattle.pv_path.specs.Heads.{head_of};
 ghost use Rattle.pv_path.specs.ShortBytes.{bytes_in, HasPlace};
 
 use std::alloc::{AllocError, Global};
 use std::marker::Model;
 
-/// As many bytes as are said, the first of those in place, or more of them apart.
+/// The bytes: either an array of which the first `usize` bytes count, or a vector.
 #[derive(Drop)]
 enum Form {
     Here(usize, [u8; 16]),
     Apart(Vec<u8>),
 }
 
-/// Bytes that lie in place where they are at most 16: a copy of these takes no memory, and is one move. Clauses see the
-/// bytes.
+/// A byte string. One of at most 16 bytes is kept inside of this value, so that a copy of it does not allocate.
+///
+/// In contracts, a value is the list of its bytes.
 #[derive(Drop)]
 pub(crate) struct ShortBytes {
     form: Form,
@@ -31,7 +33,7 @@ impl Model for ShortBytes {
 }
 
 impl ShortBytes {
-    /// These bytes, copied.
+    /// Makes a value from a copy of the bytes.
     pub(crate) fn of(alloc: Global, bytes: &[u8]) -> Result<ShortBytes, AllocError>
         ensures { IfOk result (λ copy. copy ≡ bytes.now) }
     {
@@ -43,7 +45,7 @@ impl ShortBytes {
         Ok(ShortBytes { form })
     }
 
-    /// The bytes.
+    /// Returns the bytes.
     pub(crate) fn as_slice(&self) -> &[u8]
         ensures { result.now ≡ self.now }
     {
@@ -53,7 +55,14 @@ impl ShortBytes {
         }
     }
 
-    /// A copy of the bytes.
+    /// Returns the first eight bytes as one big-endian number. If there are fewer, zeros follow.
+    pub(crate) fn head(&self) -> u64
+        ensures { result ≡ head_of self.now }
+    {
+        head_of(all_bytes(&self.form))
+    }
+
+    /// Returns a copy of the bytes.
     pub(crate) fn copy(&self) -> Result<ShortBytes, AllocError>
         ensures { IfOk result (λ copy. copy ≡ self.now) }
     {
@@ -65,7 +74,7 @@ impl ShortBytes {
     }
 }
 
-/// Bytes in place.
+/// Keeps at most 16 bytes inside of the value.
 fn here(bytes: &[u8]) -> Form
     requires { length bytes.now ≤ 16 }
     ensures bytes { bytes_in result ≡ bytes.now }
@@ -74,4 +83,27 @@ fn here(bytes: &[u8]) -> Form
     let mut place = [0; 16];
     place[..bytes.len()].copy_from_slice(bytes);
     Form::Here(bytes.len(), place)
+}
+
+/// Returns the bytes and all zeros that follow them. There are at least eight.
+fn all_bytes(form: &Form) -> &[u8]
+    requires { HasPlace form.now }
+    ensures count { 8 ≤ length result.now }
+    ensures head { head_of result.now ≡ head_of (bytes_in form.now) }
+{
+    match form {
+        Form::Here(_, place) => place,
+        Form::Apart(bytes) => bytes.as_slice(),
+    }
+}
+
+/// Returns the first eight bytes as one big-endian number.
+fn head_of(bytes: &[u8]) -> u64
+    requires { 8 ≤ length bytes.now }
+    ensures { result ≡ head_of bytes.now }
+{
+    match bytes.first_chunk::<8>() {
+        Some(first) => u64::from_be_bytes(*first),
+        None => unreachable!(),
+    }
 }

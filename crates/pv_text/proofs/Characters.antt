@@ -8,7 +8,7 @@ use Rattle.std.proofs.lemmas.Bool.{and_parts, and_from}
 use Rattle.pv_path.specs.Paths.{Path}
 use Rattle.pv_path.specs.Printing.{hex_digit, is_plain, printed, printed_by, printed_byte_by, printed_path}
 use Rattle.pv_text.specs.declared.place.Place.{Place}
-use Rattle.pv_text.specs.Lines.{lacks, is_line, are_lines}
+use Rattle.pv_text.specs.Lines.{lacks, is_line}
 use Rattle.pv_text.specs.GivenMessages.{message_text_at}
 
 -- ---- tests of all bytes
@@ -132,7 +132,3 @@ one_line-new_messages place text file small one =
     let front : is_line (place.file ++ codes ":") ≡ true = one_line-append place.file (codes ":") file refl in
     let number : is_line (place.file ++ codes ":" ++ decimal place.number) ≡ true = one_line-append (place.file ++ codes ":") (decimal place.number) front (one_line-decimal place.number small) in
     one_line-append (place.file ++ codes ":" ++ decimal place.number ++ codes ": ") text (one_line-append (place.file ++ codes ":" ++ decimal place.number) (codes ": ") number refl) one
-
--- a line more
-pub lines-push : (lines : List (List ℕ)) (line : List ℕ) → are_lines lines ≡ true → is_line line ≡ true → are_lines (lines ++ line ∷ []) ≡ true
-lines-push lines line all one = all_append is_line lines (line ∷ []) all (and_from (is_line line) true one refl)

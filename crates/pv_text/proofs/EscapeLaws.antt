@@ -73,9 +73,3 @@ undone_turn (b ∷ after) v taken some good unit =
       subst HasGoodEscapes (sym rest) (good_anywhere 0 (0 + 1 + taken) 0 (drop taken after) (sym (bad_step b after (v, taken) 0 is_unit) ∙ good)),
       undone_step b after (v, taken) is_unit ∙ ap (λ (a : List ℕ). v ∷ unescaped a) (sym rest),
     )
-
-pub good_head : (rest : List ℕ) → 1 ≤ length rest → HasGoodEscapes rest → unit_of (get_or rest 0 0) (after_first rest) ≡ None → ⊥
-good_head [] some good none = omega (arith, some)
-good_head (b ∷ after) some good none =
-    let is_none : unit_of b after ≡ None = subst (λ (a : List ℕ). unit_of b a ≡ None) (take_rest (b ∷ after) 1) none in
-    let here : bad_escape 0 0 (b ∷ after) ≡ Some 0 = bad_here b after 0 is_none in cc

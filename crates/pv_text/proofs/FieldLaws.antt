@@ -3,7 +3,7 @@ use Rattle.std.proofs.Common.{◌≡◌, ℕ, zero, suc, ◌+◌, ◌-◌, ◌<�
 use Rattle.std.specs.List.{AllByRecursion}
 use Rattle.std.proofs.Math.Seq.{drop-cons}
 use Rattle.pv_text.specs.declared.text_fault.FieldFault.{FieldFault}
-use Rattle.pv_text.specs.Fields.{closing, Span, next_place, field_at, argument_at, fields_from, with_front, IsChecked}
+use Rattle.pv_text.specs.Fields.{closing, Span, next_place, field_at, argument_at, fields_from, after_spans, IsChecked}
 
 -- the first quote of what is left of a text, of which a backslash may hide the first byte
 abbrev pub closing_left : ℕ → Bool → ℕ → List ℕ → Option ℕ
@@ -52,7 +52,7 @@ unfolding fields_from
 argument_fails line at e below is = rw (lt-ltb (next_place line at) (length line) below, is) refl
 
 pub field_left : (left : ℕ) (line : List ℕ) (at : ℕ) (span : Span) (after : ℕ) → next_place line at < length line → field_at line (next_place line at) ≡ Ok (span, after)
-    → fields_from (suc left) line at ≡ with_front (span ∷ []) (fields_from left line after)
+    → fields_from (suc left) line at ≡ after_spans (span ∷ []) (fields_from left line after)
 unfolding fields_from
 field_left left line at span after below is = rw (lt-ltb (next_place line at) (length line) below, is) refl
 
@@ -60,7 +60,7 @@ pub field_fails : (left : ℕ) (line : List ℕ) (at : ℕ) (e : FieldFault) →
 unfolding fields_from
 field_fails left line at e below is = rw (lt-ltb (next_place line at) (length line) below, is) refl
 
-front_front : (a b : List Span) (read : Result (List Span) FieldFault) → with_front a (with_front b read) ≡ with_front (a ++ b) read
+front_front : (a b : List Span) (read : Result (List Span) FieldFault) → after_spans a (after_spans b read) ≡ after_spans (a ++ b) read
 front_front a b (Ok c) = ap Ok (sym (append_assoc a b c))
 front_front a b (Err e) = refl
 
@@ -74,21 +74,21 @@ less_one counter below = omega arith
 -- the turns of the loop over the fields before the Argument
 pub field_turn : (line : List ℕ) (spans : List Span) (counter at : ℕ) (span : Span) (after : ℕ) (whole : Result (List Span) FieldFault) → counter < 6
     → next_place line at < length line → field_at line (next_place line at) ≡ Ok (span, after)
-    → with_front spans (fields_from (6 - counter) line at) ≡ whole → with_front (spans ++ span ∷ []) (fields_from (6 - (counter + 1)) line after) ≡ whole
+    → after_spans spans (fields_from (6 - counter) line at) ≡ whole → after_spans (spans ++ span ∷ []) (fields_from (6 - (counter + 1)) line after) ≡ whole
 field_turn line spans counter at span after whole more below is before =
     sym (front_front spans (span ∷ []) _)
-    ∙ ap (with_front spans) (sym (field_left (6 - (counter + 1)) line at span after below is) ∙ ap (λ n. fields_from n line at) (sym (less_one counter more)))
+    ∙ ap (after_spans spans) (sym (field_left (6 - (counter + 1)) line at span after below is) ∙ ap (λ n. fields_from n line at) (sym (less_one counter more)))
     ∙ before
 
 pub fails_turn : (line : List ℕ) (spans : List Span) (counter at : ℕ) (e : FieldFault) (whole : Result (List Span) FieldFault) → counter < 6
     → next_place line at < length line → field_at line (next_place line at) ≡ Err e
-    → with_front spans (fields_from (6 - counter) line at) ≡ whole → whole ≡ Err e
+    → after_spans spans (fields_from (6 - counter) line at) ≡ whole → whole ≡ Err e
 fails_turn line spans counter at e whole more below is before =
-    sym before ∙ ap (with_front spans) (ap (λ n. fields_from n line at) (less_one counter more) ∙ field_fails (6 - (counter + 1)) line at e below is)
+    sym before ∙ ap (after_spans spans) (ap (λ n. fields_from n line at) (less_one counter more) ∙ field_fails (6 - (counter + 1)) line at e below is)
 
 pub end_turn : (line : List ℕ) (spans : List Span) (left at : ℕ) (whole : Result (List Span) FieldFault) → length line ≤ next_place line at
-    → with_front spans (fields_from left line at) ≡ whole → with_front spans (fields_from 0 line (length line)) ≡ whole
-end_turn line spans left at whole end before = ap (with_front spans) (at_end line ∙ sym (none_left left line at end)) ∙ before
+    → after_spans spans (fields_from left line at) ≡ whole → after_spans spans (fields_from 0 line (length line)) ≡ whole
+end_turn line spans left at whole end before = ap (after_spans spans) (at_end line ∙ sym (none_left left line at end)) ∙ before
 
 -- one more checked span
 pub checked_more : (line : List ℕ) (spans : List Span) (span : Span) → AllByRecursion (IsChecked line) spans → IsChecked line span → AllByRecursion (IsChecked line) (spans ++ span ∷ [])

@@ -1,5 +1,5 @@
--- The fields of a configuration line: Type, Path, Mode, User, Group, Age and Argument (tmpfiles.d(5)).
--- Places are counted from 0.
+-- The fields of a configuration line: Type, Path, Mode, User, Group, Age and Argument (tmpfiles.d(5)). Indices of
+-- bytes are counted from 0.
 use Rattle.std.specs.Prelude.{ℕ, zero, suc, ◌+◌, ◌-◌, ◌≤◌, Bool, true, ◌||◌, ◌==◌, nat_lt, List, [], ◌∷◌, ◌++◌, drop, length, slice_range, Option, Some, None, Result, Ok, Err, if◌then◌else◌, refl}
 use Rattle.std.specs.Coded.{Coded, code_by, coded×, coded_list, coded_ℕ}
 use Rattle.std.specs.List.{prefix_len, suffix_len, position_or_len, position}
@@ -8,21 +8,24 @@ use Rattle.pv_text.specs.declared.text_fault.FieldFault.{FieldFault}
 use Rattle.pv_text.specs.declared.text_fault.FieldFault.TheVariants.{BadByte, OpenQuote, GluedQuote, BadEscape, TooFew}
 use Rattle.pv_text.specs.Escapes.{bad_escape, HasGoodEscapes}
 
--- a blank: space, tab or carriage return
+-- Whether a byte is a blank: a space, a tab or a carriage return.
 abbrev pub is_blank : ℕ → Bool
 is_blank b = b == 32 || b == 9 || b == 13
 
+-- Whether a byte is a double or a single quote.
 abbrev pub is_quote : ℕ → Bool
 is_quote b = b == 34 || b == 39
 
--- a part of a line: the place of its first byte, and the place after its last
+-- A part of a line: the index of its first byte, and the index after its last byte.
 abbrev pub Span : Type 0
 Span = ℕ × ℕ
 
+-- The bytes of a span.
 abbrev pub text_at : List ℕ → Span → List ℕ
 text_at line span = slice_range line span.0 span.1
 
--- the place of the first quote, in a text that begins at a place; a backslash hides the byte after it
+-- The index of the first closing quote in a text, if there is one. `at` is the index of the text's first byte. The
+-- byte after a backslash is skipped.
 abbrev pub closing : ℕ → ℕ → List ℕ → Option ℕ
 closing quote at [] = None
 closing quote at (b ∷ []) = if b == quote then Some at else None
@@ -31,7 +34,7 @@ closing quote at (b ∷ c ∷ bytes) =
     else if b == 92 then closing quote (at + 2) bytes
     else closing quote (at + 1) (c ∷ bytes)
 
--- the span, where each backslash in its text begins an escape
+-- The span, if each backslash in it begins an escape. Otherwise the first bad escape is the fault.
 abbrev pub escaped : List ℕ → Span → Result Span FieldFault
 escaped line span = by (bad_escape 0 span.0 (text_at line span))
   where
@@ -39,25 +42,27 @@ escaped line span = by (bad_escape 0 span.0 (text_at line span))
     by None = Ok span
     by (Some at) = Err (BadEscape at)
 
--- whether a field may end before these bytes
+-- Whether a field may end before these bytes: there are none, or the first one is a blank.
 abbrev pub is_ended : List ℕ → Bool
 is_ended [] = true
 is_ended (b ∷ bytes) = is_blank b
 
--- a field without a quote at its beginning runs to the next blank, or to the end
+-- A field that does not begin with a quote. It ends at the next blank, or at the end of the line. It comes with the
+-- index after it.
 abbrev pub bare_at : List ℕ → ℕ → Result (Span × ℕ) FieldFault
 bare_at line at = do
   span ← escaped line (at, at + position_or_len is_blank (drop at line))
   Ok (span, span.1)
 
--- a field with one lies between its quotes, and after the second a blank or the end follows
+-- A field that begins with a quote. Its span lies between this quote and the closing one, whose index is given. The
+-- faults, in this order: no closing quote, a bad escape, neither a blank nor the end after the closing quote.
 abbrev pub quoted_at : List ℕ → ℕ → Option ℕ → Result (Span × ℕ) FieldFault
 quoted_at line at None = Err (OpenQuote at)
 quoted_at line at (Some close) = do
   span ← escaped line (at + 1, close)
   if is_ended (drop (close + 1) line) then Ok (span, close + 1) else Err (GluedQuote (close + 1))
 
--- the field that begins at a place: its span, and the place after it
+-- The field that begins at an index: its span, and the index after it.
 unfoldable pub field_at : List ℕ → ℕ → Result (Span × ℕ) FieldFault
 field_at line at = by_first (drop at line)
   where
@@ -65,16 +70,17 @@ field_at line at = by_first (drop at line)
     by_first [] = bare_at line at
     by_first (b ∷ bytes) = if is_quote b then quoted_at line at (closing b (at + 1) bytes) else bare_at line at
 
--- the place of the next byte that is no blank, or the end
+-- The index of the next byte that is not a blank, or of the end of the line.
 abbrev pub next_place : List ℕ → ℕ → ℕ
 next_place line at = at + prefix_len is_blank (drop at line)
 
--- the Argument begins at a place and runs to the end, without the blanks there
+-- The Argument begins at an index and runs to the end of the line. Blanks at the end are left out, and quotes have
+-- no meaning.
 abbrev pub argument_at : List ℕ → ℕ → Result Span FieldFault
 argument_at line at = escaped line (at, at + (length (drop at line) - suffix_len is_blank (drop at line)))
 
--- the fields from a place on, where so many may stand before the Argument; the first fault from the
--- left
+-- The spans of the fields from an index on. At most this many fields come before the Argument, and there may be
+-- fewer. The first fault from the left counts.
 unfoldable pub fields_from : ℕ → List ℕ → ℕ → Result (List Span) FieldFault
 fields_from zero line at = if nat_lt (next_place line at) (length line) then one (argument_at line (next_place line at)) else Ok []
   where
@@ -90,14 +96,14 @@ fields_from (suc left) line at = if nat_lt (next_place line at) (length line) th
       spans ← rest field.1
       Ok (field.0 ∷ spans)
 
--- a line has at least Type and Path
+-- The spans, if there are at least two, for Type and Path. Otherwise too few fields are the fault.
 abbrev pub enough : Result (List Span) FieldFault → Result (List Span) FieldFault
 enough read = do
   spans ← read
   if nat_lt (length spans) 2 then Err TooFew else Ok spans
 
--- the spans of a line's fields, from Type on as far as there are fields, or its first fault: a NUL
--- byte, then the other faults from the left
+-- The spans of the fields of a line, Type first. If it has faults, the first of these counts: a NUL byte, the first
+-- fault of a field from the left, fewer than two fields. At most six fields come before the Argument.
 unfoldable pub fields_of : List ℕ → Result (List Span) FieldFault
 fields_of line = by_nul (position (λ b. b == 0) line)
   where
@@ -105,21 +111,21 @@ fields_of line = by_nul (position (λ b. b == 0) line)
     by_nul (Some at) = Err (BadByte at)
     by_nul None = enough (fields_from 6 line 0)
 
--- what is read after some spans
-abbrev pub with_front : List Span → Result (List Span) FieldFault → Result (List Span) FieldFault
-with_front front read = do
+-- What is read, with some spans before it.
+abbrev pub after_spans : List Span → Result (List Span) FieldFault → Result (List Span) FieldFault
+after_spans front read = do
   spans ← read
   Ok (front ++ spans)
 
--- a part of a line in which each backslash begins an escape
+-- A span lies in the line, and each backslash in its text begins an escape.
 abbrev pub IsChecked : List ℕ → Span → Type 0
 IsChecked line span = (span.0 ≤ span.1) × (span.1 ≤ length line) × HasGoodEscapes (text_at line span)
 
--- a line with the spans of its fields
+-- A line with the spans of its fields.
 pub record Cut : Type 0 where
   pub line : List ℕ
   pub spans : List Span
 
--- it is stored as the pair of its parts
+-- How the prover stores such a line: as the pair of its two parts.
 abbrev pub cut_code : Coded Cut
 cut_code = code_by (List ℕ × List Span) (coded× (coded_list coded_ℕ) (coded_list (coded× coded_ℕ coded_ℕ))) (λ c. (c.line, c.spans)) (λ p. record { line = p.0; spans = p.1 }) (λ _. refl)

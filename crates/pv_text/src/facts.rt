@@ -1,4 +1,4 @@
-//! Facts of the machine, by the letters of their specifiers.
+//! What an image says about its system: the values of specifiers such as `%b`, by their letters.
 ghost use Rattle.std.specs.Prelude.{◌≡◌, ℕ, List, true, None, OnOk, OnErr};
 ghost use Rattle.std.specs.Option.{option_copied};
 ghost use Rattle.std.specs.Ordering.{nat_cmp};
@@ -11,11 +11,12 @@ use std::alloc::{AllocError, Global};
 use std::collections::BTreeMap;
 use std::marker::Model;
 
-/// The letters that a fact can have, in byte order.
+/// The letters of the specifiers whose values are facts, in byte order (tmpfiles.d(5)).
 pub const FACT_LETTERS: [u8; 12] = *b"ABHMWablmovw";
 
-/// Values of specifiers (tmpfiles.d(5)) by their letters: what an image says about its system.
-/// Clauses see the finite map from letters to values.
+/// The facts of an image: values of some of the specifiers in `FACT_LETTERS`, each of 1 to 255 bytes.
+///
+/// For example, the letter `b` has the boot ID. In contracts, a value is the finite map from letters to values.
 #[derive(Drop)]
 pub struct Facts {
     values: BTreeMap<u8, Bytes>,
@@ -33,7 +34,7 @@ impl Model for Facts {
 }
 
 impl Facts {
-    /// No facts. It takes no memory.
+    /// Returns a value without any fact. The call does not allocate.
     pub fn new(alloc: Global) -> Facts
         ensures { result ≡ map.empty }
     {
@@ -43,8 +44,10 @@ impl Facts {
         }
     }
 
-    /// Gives a letter its value, which it must not have yet. After running out of memory the facts are as
-    /// before.
+    /// Adds a fact: the value of the specifier with this letter.
+    ///
+    /// The letter must be one of `FACT_LETTERS` and must have no value yet, and `value` must have 1 to 255 bytes. The
+    /// only error is `AllocError`, and then the facts are unchanged.
     pub fn put(&mut self, letter: u8, value: &[u8]) -> Result<(), AllocError>
         requires fact { is_fact letter value.now ≡ true }
         requires new { map.get self.old letter ≡ None }
@@ -56,7 +59,8 @@ impl Facts {
         Ok(())
     }
 
-    /// The value of a letter, or nothing if it has none. It takes no memory.
+    /// Returns the value of the specifier with this letter, or `None` if there is no such fact. The call does not
+    /// allocate.
     pub fn get(&self, letter: u8) -> Option<&[u8]>
         ensures value { option_copied result ≡ map.get self.now letter }
         ensures facts { HasFactsAlone self.now }

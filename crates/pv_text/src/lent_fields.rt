@@ -1,4 +1,4 @@
-//! The fields of a line, lent from the line itself.
+//! The fields of a configuration line, borrowed from the line.
 ghost use Rattle.std.specs.Prelude.{◌≡◌, ◌≤◌, length, Ok, None, IfSome, slice_get};
 ghost use Rattle.std.specs.List.{AllByRecursion};
 ghost use Rattle.std.specs.Option.{option_map};
@@ -8,8 +8,11 @@ ghost use Rattle.pv_text.specs.Fields.{Cut, cut_code, IsChecked, fields_of, text
 use crate::spans::Spans;
 use std::marker::Model;
 
-/// The fields of a line, lent from it: Type, Path, Mode, User, Group, Age and Argument, as far as
-/// they are there. Clauses see the line and the spans of its fields.
+/// The 2 to 7 fields of a configuration line, borrowed from it. For tmpfiles.d(5) they are Type, Path, Mode, User,
+/// Group, Age and Argument. For sysusers.d(5) the first six are Type, Name, ID, GECOS, Home and Shell.
+///
+/// If a line has fewer than seven fields, it lacks the last ones. In contracts, a value is the line and the spans of
+/// its fields.
 #[derive(Drop)]
 pub struct Fields<'a> {
     line: &'a [u8],
@@ -27,6 +30,7 @@ impl<'a> Model for Fields<'a> {
 }
 
 impl<'a> Fields<'a> {
+    /// Makes the value from a line and the spans of its fields.
     pub(crate) fn of(line: &'a [u8], spans: Spans) -> Fields<'a>
         requires few { length spans ≤ 7 }
         requires checked { AllByRecursion (IsChecked line.now) spans }
@@ -35,9 +39,10 @@ impl<'a> Fields<'a> {
         Fields { line, spans }
     }
 
-    /// Where a field lies in the line: the place of its first byte, and the place after its last.
-    /// The quotes of a quoted field stand outside. There is none where the field is not there, and
-    /// from the place 7 on.
+    /// Returns where a field is in the line: the index of its first byte, and the index after its last byte.
+    ///
+    /// Fields count from 0, which is Type, to 6, which is Argument. Bytes count from 0. The quotes of a quoted
+    /// field are outside of its span. Returns `None` if the line does not have this field.
     pub fn span(&self, i: usize) -> Option<(usize, usize)>
         ensures value { result ≡ slice_get self.now.spans i }
         ensures seven { 7 ≤ i → result ≡ None }
@@ -45,8 +50,11 @@ impl<'a> Fields<'a> {
         self.spans.get(i)
     }
 
-    /// The bytes of a field, with their escapes. There are none where the field is not there, and
-    /// from the place 7 on.
+    /// Returns the bytes of a field as they are in the line, without its quotes. Escapes are not replaced: `unescape`
+    /// does this.
+    ///
+    /// Fields count from 0, which is Type, to 6, which is Argument. Returns `None` if the line does not have this
+    /// field.
     pub fn field(&self, i: usize) -> Option<&'a [u8]>
         ensures value { let spelt = option_map (text_at self.now.line) (slice_get self.now.spans i) in
             option_map (λ text. text.now) result ≡ spelt }

@@ -1,5 +1,8 @@
-//! Fields, escapes and specifiers of configuration lines, and the facts, messages, places and tools
-//! that several crates share.
+//! Fields, escapes and specifiers of configuration lines. Also what several crates share: facts, messages and
+//! locations.
+//!
+//! [`fields`] splits a line, [`unescape`] replaces the escapes of a field, and [`expand`] its specifiers. [`Facts`] has
+//! the values of specifiers, [`Messages`] the messages of a run, and [`Place`] the location of a line.
 #![tactic(auto)]
 
 mod escapes;

@@ -1,4 +1,4 @@
-//! The messages of a run, in the order in which they are said.
+//! The messages of a run, in their order.
 ghost use Rattle.std.specs.Prelude.{◌≡◌, ℕ, true, List, [], ◌∷◌, ◌++◌, length, IfOk, IfSome, OnOk, OnErr, slice_get};
 ghost use Rattle.std.specs.Option.{option_copied, option_to_list};
 ghost use Rattle.pv_text.specs.Lines.{are_lines, is_line};
@@ -10,8 +10,11 @@ use pv_path::Bytes;
 use std::alloc::{AllocError, Global};
 use std::marker::Model;
 
-/// The messages (diagnostics) of a run, in their order, each without the `: ` before it and the line feed
-/// after it. No line feed stands in a line, so that each is read again as one. Clauses see the list of lines.
+/// The messages of a run, in their order. Each is one line, without the `: ` that marks a message in an image, and
+/// without its line feed.
+///
+/// No message contains a line feed, so that each can be read back as one. In contracts, a value is the list of
+/// messages.
 #[derive(Drop)]
 pub struct Messages {
     lines: Vec<Bytes>,
@@ -27,7 +30,7 @@ impl Model for Messages {
 }
 
 impl Messages {
-    /// No lines. It takes no memory.
+    /// Returns a value without messages. The call does not allocate.
     pub fn new(alloc: Global) -> Messages
         ensures { result ≡ [] }
     {
@@ -37,7 +40,9 @@ impl Messages {
         }
     }
 
-    /// Adds a line at the end. After running out of memory the lines are as before.
+    /// Adds a message at the end.
+    ///
+    /// `line` must have no line feed. The only error is `AllocError`, and then the messages are unchanged.
     pub fn push(&mut self, line: &[u8]) -> Result<(), AllocError>
         requires line { is_line line.now ≡ true }
         ensures ok { OnOk result (self.new ≡ self.old ++ line.now ∷ []) }
@@ -48,8 +53,11 @@ impl Messages {
         Ok(())
     }
 
-    /// Adds what is said of the line at a place, `FILE:N: TEXT`. After running out of memory the lines are as
-    /// before.
+    /// Adds a message about a configuration line at the end, as `FILE:N: TEXT`.
+    ///
+    /// FILE and N are the file and the line number of `place`. `text` must have no line feed. The only error is
+    /// `AllocError`, and then the messages are unchanged. For example, the text `TooFew` for line 3 of
+    /// `/etc/tmpfiles.d/a.conf` gives `/etc/tmpfiles.d/a.conf:3: TooFew`.
     pub fn push_at(&mut self, place: &Place, text: &[u8]) -> Result<(), AllocError>
         requires line { is_line text.now ≡ true }
         ensures ok { OnOk result (self.new ≡ self.old ++ message_text_at place.now text.now ∷ []) }
@@ -59,7 +67,7 @@ impl Messages {
         self.push(&line)
     }
 
-    /// How many lines there are. None holds a line feed.
+    /// Returns the number of messages.
     pub fn len(&self) -> usize
         ensures count { result ≡ length self.now }
         ensures lines { are_lines self.now ≡ true }
@@ -67,7 +75,7 @@ impl Messages {
         self.lines.len()
     }
 
-    /// The line at an index counted from 0, or nothing past the end.
+    /// Returns the message at an index counted from 0, or `None` past the last message. It has no line feed.
     pub fn line(&self, i: usize) -> Option<&[u8]>
         ensures value { option_copied result ≡ slice_get self.now i }
         ensures line { IfSome result (λ line. is_line line.now ≡ true) }
@@ -79,7 +87,9 @@ impl Messages {
     }
 }
 
-/// Says all messages of a list. If memory runs out, nothing or a prefix of them is said.
+/// Adds copies of all messages of `new_messages` at the end of `messages`.
+///
+/// The only error is `AllocError`. After an error, a prefix of these messages was added, perhaps none.
 pub fn say_all(new_messages: &Messages, messages: &mut Messages) -> Result<(), AllocError>
     ensures ok { OnOk result (messages.new ≡ messages.old ++ new_messages.now) }
     ensures part { MessagesPart new_messages.now messages.old messages.new }
@@ -90,7 +100,7 @@ pub fn say_all(new_messages: &Messages, messages: &mut Messages) -> Result<(), A
     Ok(())
 }
 
-/// Says the message at a place of a list, if there is one.
+/// Adds a copy of the message at an index counted from 0, if there is one.
 fn say_one(new_messages: &Messages, i: usize, messages: &mut Messages) -> Result<(), AllocError>
     ensures ok { OnOk result (messages.new ≡ messages.old ++ option_to_list (slice_get new_messages.now i)) }
     ensures err { OnErr result (messages.new ≡ messages.old) }
@@ -101,7 +111,7 @@ fn say_one(new_messages: &Messages, i: usize, messages: &mut Messages) -> Result
     }
 }
 
-/// `FILE:N: TEXT`.
+/// Returns the text `FILE:N: TEXT`.
 fn line_at(alloc: Global, file: &OneLine, number: u32, text: &[u8]) -> Result<Vec<u8>, AllocError>
     requires { is_line text.now ≡ true }
     ensures text { IfOk result (λ line. line.items ≡ message_text_at (record { file = file.now; number = number }) text.now) }

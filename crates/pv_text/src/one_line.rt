@@ -7,7 +7,9 @@ use pv_path::{Bytes, TreePath, print_path};
 use std::alloc::{AllocError, Global};
 use std::marker::Model;
 
-/// A text in which no line feed stands, so that what is said of it is one line. Clauses see its bytes.
+/// A text without a line feed, so that a message about it is one line.
+///
+/// In contracts, a value is the list of its bytes.
 #[derive(Drop)]
 pub struct OneLine {
     bytes: Bytes,
@@ -22,7 +24,7 @@ impl Model for OneLine {
 }
 
 impl OneLine {
-    /// A text that has one line, copied.
+    /// Makes a value from a copy of a text. The text must have no line feed. The only error is `AllocError`.
     pub fn copy_of(alloc: Global, text: &[u8]) -> Result<OneLine, AllocError>
         requires { is_line text.now ≡ true }
         ensures { IfOk result (λ copy. copy ≡ text.now) }
@@ -32,7 +34,7 @@ impl OneLine {
         })
     }
 
-    /// A path as messages print it.
+    /// Makes the text of a path as messages have it, by `print_path` of pv_path. The only error is `AllocError`.
     pub fn of_path(alloc: Global, path: &TreePath) -> Result<OneLine, AllocError>
         ensures { IfOk result (λ text. text ≡ printed_path path.now) }
     {
@@ -42,7 +44,7 @@ impl OneLine {
         })
     }
 
-    /// A copy of the text.
+    /// Returns a copy of the text. The only error is `AllocError`.
     pub fn copy(&self) -> Result<OneLine, AllocError>
         ensures { IfOk result (λ copy. copy ≡ self.now) }
     {
@@ -51,7 +53,7 @@ impl OneLine {
         })
     }
 
-    /// The bytes of the text.
+    /// Returns the bytes of the text. None of them is a line feed.
     pub fn as_slice(&self) -> &[u8]
         ensures value { result.now ≡ self.now }
         ensures line { is_line self.now ≡ true }

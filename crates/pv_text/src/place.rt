@@ -1,20 +1,20 @@
-//! Where a line stands: file and number.
+//! The location of a configuration line: its file and its line number.
 ghost use Rattle.std.specs.Prelude.{◌≡◌, IfOk};
 
 use crate::one_line::OneLine;
 use std::alloc::AllocError;
 
-/// The source location of a line of a configuration.
+/// The location of a configuration line: its file and its line number.
 #[derive(Drop)]
 pub struct Place {
-    /// The printed path of the file.
+    /// The path of the file, printed as messages have it.
     pub file: OneLine,
-    /// The number of the line, counted from 1.
+    /// The line number, counted from 1.
     pub number: u32,
 }
 
 impl Place {
-    /// A copy of the place.
+    /// Returns a copy of the location. The only error is `AllocError`.
     pub fn copy(&self) -> Result<Place, AllocError>
         ensures { IfOk result (λ place. place ≡ self.now) }
     {

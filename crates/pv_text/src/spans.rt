@@ -1,9 +1,11 @@
-//! Where in a line its fields stand.
+//! Where the fields of a line are.
 ghost use Rattle.std.specs.Prelude.{◌≡◌, ℕ, ◌<◌, ◌≤◌, List, [], ◌∷◌, ◌++◌, take, length, slice_get};
 
 use std::marker::Model;
 
-/// The places of up to seven fields: of the first byte, and after the last. Clauses see the list.
+/// The spans of up to seven fields: the index of the first byte, and the index after the last byte.
+///
+/// In contracts, a value is the list of spans.
 #[derive(Drop)]
 pub(crate) struct Spans {
     places: [(usize, usize); 7],
@@ -19,6 +21,7 @@ impl Model for Spans {
 }
 
 impl Spans {
+    /// Returns a value without spans.
     pub(crate) fn new() -> Spans
         ensures { result ≡ [] }
     {
@@ -28,6 +31,7 @@ impl Spans {
         }
     }
 
+    /// Adds a span at the end. There must be fewer than seven.
     pub(crate) fn push(&mut self, span: (usize, usize))
         requires { length self.old < 7 }
         ensures { self.new ≡ self.old ++ span ∷ [] }
@@ -36,6 +40,7 @@ impl Spans {
         self.count += 1;
     }
 
+    /// Returns the number of spans.
     pub(crate) fn len(&self) -> usize
         ensures value { result ≡ length self.now }
         ensures few { result ≤ 7 }
@@ -43,6 +48,7 @@ impl Spans {
         self.count
     }
 
+    /// Returns the span at an index counted from 0, or `None` past the last span.
     pub(crate) fn get(&self, i: usize) -> Option<(usize, usize)>
         ensures { result ≡ slice_get self.now i }
     {

@@ -8,6 +8,7 @@ use crate::text_fault::ExpandFault;
 use crate::tool::Tool;
 use std::alloc::Global;
 
+/// Returns the value of a specifier that is the same for both tools.
 fn fixed_for_both(letter: u8) -> Option<&'static [u8]>
     ensures { option_map (λ text. text.now) result ≡ fixed_for_both letter }
 {
@@ -19,6 +20,7 @@ fn fixed_for_both(letter: u8) -> Option<&'static [u8]>
     }
 }
 
+/// Returns the value of a specifier that has a fixed value for `systemd-tmpfiles` alone.
 fn fixed_for_tmpfiles(letter: u8) -> Option<&'static [u8]>
     ensures { option_map (λ text. text.now) result ≡ fixed_for_tmpfiles letter }
 {
@@ -34,6 +36,8 @@ fn fixed_for_tmpfiles(letter: u8) -> Option<&'static [u8]>
     }
 }
 
+/// Returns the value of a specifier that is a fact. Without that fact it is an error for some letters, and empty
+/// for others.
 fn from_facts(letter: u8, facts: &Facts) -> Result<&[u8], ExpandFault>
     ensures { let meant = from_facts facts.now letter in
         MatchResult result (λ text. meant ≡ Ok text.now) (λ e. meant ≡ Err e) }
@@ -47,7 +51,7 @@ fn from_facts(letter: u8, facts: &Facts) -> Result<&[u8], ExpandFault>
     }
 }
 
-/// What a letter after a percent sign stands for.
+/// Returns the value of the specifier with a letter.
 fn meaning_of(letter: u8, facts: &Facts, tool: Tool) -> Result<&[u8], ExpandFault>
     ensures { let meant = meaning_of tool facts.now letter in
         MatchResult result (λ text. meant ≡ Ok text.now) (λ e. meant ≡ Err e) }
@@ -63,8 +67,19 @@ fn meaning_of(letter: u8, facts: &Facts, tool: Tool) -> Result<&[u8], ExpandFaul
     from_facts(letter, facts)
 }
 
-/// The text with its specifiers expanded. The first fault from the left is answered; what a
-/// specifier stands for is not expanded again.
+/// Replaces each specifier in a text by its value (tmpfiles.d(5), sysusers.d(5)). A value is not expanded again.
+///
+/// A specifier is a percent sign and the byte after it:
+///
+/// - `%%` is a percent sign, `%T` is `/tmp` and `%V` is `/var/tmp`.
+/// - For `systemd-tmpfiles`, `%C` is `/var/cache`, `%L` is `/var/log`, `%S` is `/var/lib`, `%t` is `/run` and `%h`
+///   is `/root`.
+/// - For `systemd-tmpfiles`, `%g` and `%u` are `root`, and `%G` and `%U` are `0`.
+/// - `%a`, `%b`, `%H`, `%l`, `%m` and `%v` are facts. Without that fact the error is `MissingFact`.
+/// - `%A`, `%B`, `%M`, `%o`, `%w` and `%W` are facts. Without that fact the value is empty.
+///
+/// Every other specifier, and a percent sign at the end, is `UnknownSpecifier`. An error is that of the first
+/// faulty specifier from the left. `Memory` may come instead if an allocation fails.
 pub fn expand(alloc: Global, text: &[u8], facts: &Facts, tool: Tool) -> Result<Vec<u8>, ExpandFault>
     ensures ok { IfOk result (λ v. expanded tool facts.now text.now ≡ Ok v.items) }
     ensures fault { IfErr result (λ e. FailsSo e (expanded tool facts.now text.now)) }

@@ -1,21 +1,21 @@
-//! How a line is cut into fields: blanks, quotes, escapes, and the argument at its end.
+//! Splits a configuration line into fields: blanks, quotes, escapes, and the Argument at its end.
 ghost use Rattle.std.specs.Prelude.{◌≡◌, ℕ, ◌==◌, ◌+◌, ◌-◌, ◌^◌, ◌<◌, ◌≤◌, false, IsTrue, ◌↔◌, List, [], ◌∷◌, ◌++◌, drop, length, IfOk, IfErr, IfSome, Ok, Err, MatchResult};
 ghost use Rattle.std.specs.List.{prefix_len, suffix_len, position, position_or_len, AllByRecursion};
-ghost use Rattle.pv_text.specs.Fields.{is_blank, is_quote, text_at, closing, escaped, is_ended, bare_at, quoted_at, field_at, next_place, argument_at, fields_from, enough, fields_of, with_front, IsChecked};
+ghost use Rattle.pv_text.specs.Fields.{is_blank, is_quote, text_at, closing, escaped, is_ended, bare_at, quoted_at, field_at, next_place, argument_at, fields_from, enough, fields_of, after_spans, IsChecked};
 
 use crate::escapes::bad_escape;
 use crate::lent_fields::Fields;
 use crate::spans::Spans;
 use crate::text_fault::FieldFault;
 
-/// Whether a byte stands between fields: a space, a tab or a carriage return.
+/// Returns whether a byte separates fields: a space, a tab or a carriage return.
 pub fn is_blank(byte: u8) -> bool
     ensures { result ≡ is_blank byte }
 {
     matches!(byte, b' ' | b'\t' | b'\r')
 }
 
-/// The place of the next byte that is no blank, or the end.
+/// Returns the index of the next byte from `at` on that is not a blank, or the length of the line.
 fn next_place(line: &[u8], at: usize) -> usize
     requires { at ≤ length line.now }
     ensures value { result ≡ next_place line.now at }
@@ -24,6 +24,7 @@ fn next_place(line: &[u8], at: usize) -> usize
     at + leading_blanks(&line[at..])
 }
 
+/// Returns how many blanks a text begins with.
 fn leading_blanks(text: &[u8]) -> usize
     ensures value { result ≡ prefix_len is_blank text.now }
     ensures within { result ≤ length text.now }
@@ -31,6 +32,7 @@ fn leading_blanks(text: &[u8]) -> usize
     text.iter().take_while(|byte| is_blank(**byte)).count()
 }
 
+/// Returns how many bytes a text has before its first blank.
 fn bare_length(text: &[u8]) -> usize
     ensures value { result ≡ position_or_len is_blank text.now }
     ensures within { result ≤ length text.now }
@@ -38,7 +40,7 @@ fn bare_length(text: &[u8]) -> usize
     text.iter().take_while(|byte| !is_blank(**byte)).count()
 }
 
-/// The length of a text without the blanks at its end.
+/// Returns the length of a text without the blanks at its end.
 fn kept_length(text: &[u8]) -> usize
     ensures value { result ≡ length text.now - suffix_len is_blank text.now }
     ensures within { result ≤ length text.now }
@@ -50,7 +52,7 @@ fn kept_length(text: &[u8]) -> usize
     end
 }
 
-/// The place of the quote that closes a field which begins at a place.
+/// Returns the index of the closing quote. Indices count from `at`, that of the first byte of `text`.
 fn closing(quote: u8, at: usize, text: &[u8]) -> Option<usize>
     requires { at + length text.now < 2 ^ 64 }
     ensures value { result ≡ closing quote at text.now }
@@ -69,7 +71,7 @@ fn closing(quote: u8, at: usize, text: &[u8]) -> Option<usize>
     None
 }
 
-/// The span, where each backslash in its text begins an escape.
+/// Returns the span if each backslash in it begins an escape.
 fn escaped(line: &[u8], start: usize, end: usize) -> Result<(usize, usize), FieldFault>
     requires order { start ≤ end }
     requires within { end ≤ length line.now }
@@ -82,7 +84,7 @@ fn escaped(line: &[u8], start: usize, end: usize) -> Result<(usize, usize), Fiel
     }
 }
 
-/// Whether a field may end at a place: a blank or the end is there.
+/// Returns whether a field may end before this text: it is empty, or begins with a blank.
 fn is_ended(text: &[u8]) -> bool
     ensures { result ≡ is_ended text.now }
 {
@@ -92,7 +94,7 @@ fn is_ended(text: &[u8]) -> bool
     }
 }
 
-/// A field without a quote at its beginning: its span, and the place after it.
+/// Reads a field that does not begin with a quote. Returns its span, and the index after it.
 fn bare_at(line: &[u8], at: usize) -> Result<((usize, usize), usize), FieldFault>
     requires { at ≤ length line.now }
     ensures value { result ≡ bare_at line.now at }
@@ -102,7 +104,7 @@ fn bare_at(line: &[u8], at: usize) -> Result<((usize, usize), usize), FieldFault
     Ok((span, span.1))
 }
 
-/// A field with a quote at its beginning: its span, and the place after it.
+/// Reads a field that begins with a quote. Returns its span, and the index after its closing quote.
 fn quoted_at(line: &[u8], at: usize, quote: u8) -> Result<((usize, usize), usize), FieldFault>
     requires { at < length line.now }
     ensures value { result ≡ quoted_at line.now at (closing quote (at + 1) (drop (at + 1) line.now)) }
@@ -118,7 +120,7 @@ fn quoted_at(line: &[u8], at: usize, quote: u8) -> Result<((usize, usize), usize
     Ok((span, close + 1))
 }
 
-/// The field that begins at a place: its span, and the place after it.
+/// Reads the field that begins at an index. Returns its span, and the index after it.
 #[tactic(auto, unfolding(crate::specs::Fields::field_at))]
 fn field_at(line: &[u8], at: usize) -> Result<((usize, usize), usize), FieldFault>
     requires { at < length line.now }
@@ -133,7 +135,7 @@ fn field_at(line: &[u8], at: usize) -> Result<((usize, usize), usize), FieldFaul
     }
 }
 
-/// The span of the Argument that begins at a place.
+/// Returns the span of the Argument that begins at an index.
 fn argument_at(line: &[u8], at: usize) -> Result<(usize, usize), FieldFault>
     requires { at ≤ length line.now }
     ensures value { result ≡ argument_at line.now at }
@@ -142,9 +144,9 @@ fn argument_at(line: &[u8], at: usize) -> Result<(usize, usize), FieldFault>
     escaped(line, at, at + kept_length(&line[at..]))
 }
 
-/// The fields before the Argument, and the place after them.
+/// Reads the fields before the Argument. Returns their spans, and the index after them.
 fn leading(line: &[u8]) -> Result<(Spans, usize), FieldFault>
-    ensures ok { IfOk result (λ r. with_front r.0 (fields_from 0 line.now r.1) ≡ fields_from 6 line.now 0) }
+    ensures ok { IfOk result (λ r. after_spans r.0 (fields_from 0 line.now r.1) ≡ fields_from 6 line.now 0) }
     ensures within { IfOk result (λ r. (length r.0 ≤ 6) × (r.1 ≤ length line.now)
         × AllByRecursion (IsChecked line.now) r.0) }
     ensures err { IfErr result (λ e. fields_from 6 line.now 0 ≡ Err e) }
@@ -163,7 +165,7 @@ fn leading(line: &[u8]) -> Result<(Spans, usize), FieldFault>
     Ok((spans, at))
 }
 
-/// All fields of a line without NUL bytes.
+/// Reads all fields of a line without NUL bytes.
 fn all_spans(line: &[u8]) -> Result<Spans, FieldFault>
     ensures ok { IfOk result (λ spans. fields_from 6 line.now 0 ≡ Ok spans) }
     ensures checked { IfOk result (λ spans. AllByRecursion (IsChecked line.now) spans) }
@@ -178,15 +180,23 @@ fn all_spans(line: &[u8]) -> Result<Spans, FieldFault>
     Ok(spans)
 }
 
-/// The place of the first NUL byte.
+/// Returns the index of the first NUL byte.
 fn nul_place(line: &[u8]) -> Option<usize>
     ensures { result ≡ position (λ b. b == 0) line.now }
 {
     line.iter().position(|byte| *byte == 0)
 }
 
-/// The fields of a line of a configuration, or its first fault: a NUL byte, then the other faults
-/// from the left, at last too few fields. It takes no memory.
+/// Splits a configuration line into its fields (tmpfiles.d(5)). The call does not allocate.
+///
+/// Fields are separated by blanks (see `is_blank`). A field that begins with `"` or `'` runs to the next quote of the
+/// same kind that is not escaped. In such a field, a backslash escapes the byte after it. The seventh field, the
+/// Argument, is the rest of the line without the blanks at its end. Quotes in it are kept as they are, and escapes in
+/// it must be valid too. For example, `d /run/app 0755 root root 10d` has six fields.
+///
+/// If the answer is `Ok`, there are 2 to 7 fields, and each backslash in them begins an escape. An error is the
+/// first fault of the line: `BadByte` if there is a NUL byte, otherwise the first of the other faults from the
+/// left, and last `TooFew`.
 #[tactic(auto, unfolding(crate::specs::Fields::fields_of))]
 pub fn fields(line: &[u8]) -> Result<Fields<'_>, FieldFault>
     ensures ok { IfOk result (λ f. (f.line ≡ line.now) × (fields_of line.now ≡ Ok f.spans)) }

@@ -1,4 +1,4 @@
-//! Why a line has no fields, and why a text has no expansion.
+//! Why a line cannot be split into fields, and why the specifiers of a text cannot be expanded.
 ghost use Rattle.std.specs.Prelude.{◌≡◌};
 ghost use Rattle.pv_text.specs.declared.text_fault.ExpandFault.TheVariants.{Memory};
 ghost use Rattle.pv_text.specs.FaultNames.{expansion_name, field_name};
@@ -6,28 +6,30 @@ ghost use Rattle.pv_text.specs.FaultNames.{expansion_name, field_name};
 use std::alloc::{AllocError, AllocFailed};
 use thiserror::Error;
 
-/// Why a line has no fields. Places are counted from 0.
+/// Why a configuration line cannot be split into fields. The number in a variant is the index of the faulty byte in the
+/// line, counted from 0.
 #[derive(Clone, Copy, Debug, PartialEq, Eq, Error)]
 pub enum FieldFault {
-    /// A NUL byte stands there.
+    /// There is a NUL byte at this index.
     #[error("BadByte")]
     BadByte(usize),
-    /// A quote there is never closed.
+    /// The quote at this index is never closed.
     #[error("OpenQuote")]
     OpenQuote(usize),
-    /// A byte other than a blank follows a closing quote there.
+    /// The byte at this index follows a closing quote, and is not a blank.
     #[error("GluedQuote")]
     GluedQuote(usize),
-    /// A backslash there begins no escape.
+    /// The backslash at this index begins no escape.
     #[error("BadEscape")]
     BadEscape(usize),
-    /// There is no Type, or no Path.
+    /// The line has no Type, or no Path.
     #[error("TooFew")]
     TooFew,
 }
 
 impl FieldFault {
-    /// Its name, as messages print it, without the place. It takes no memory.
+    /// Returns the name of the fault as messages have it, such as `BadEscape`, without the index. The call does not
+    /// allocate.
     pub fn name(self) -> &'static [u8]
         ensures { result.now ≡ field_name self }
     {
@@ -41,22 +43,22 @@ impl FieldFault {
     }
 }
 
-/// Why the specifiers of a text can't be expanded.
+/// Why the specifiers of a text cannot be expanded.
 #[derive(Clone, Copy, Debug, PartialEq, Eq, Error)]
 pub enum ExpandFault {
-    /// A percent sign stands at the end, or before a letter that the tool has no value for.
+    /// The tool does not know the specifier, or a percent sign is the last byte.
     #[error("UnknownSpecifier")]
     UnknownSpecifier,
-    /// A specifier needs a fact that the image does not give.
+    /// The specifier needs a fact that the image does not give.
     #[error("MissingFact")]
     MissingFact,
-    /// Memory ran out.
+    /// An allocation failed.
     #[error("Memory")]
     Memory,
 }
 
 impl ExpandFault {
-    /// Its name, as messages print it. It takes no memory.
+    /// Returns the name of the fault as messages have it, such as `MissingFact`. The call does not allocate.
     pub fn name(self) -> &'static [u8]
         ensures { result.now ≡ expansion_name self }
     {

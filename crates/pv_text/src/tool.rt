@@ -1,5 +1,5 @@
-//! The two tools.
-/// Which of the two tools reads a configuration.
+//! The two tools, systemd-tmpfiles and systemd-sysusers.
+/// Which of the two tools runs.
 #[derive(Clone, Copy, PartialEq, Eq)]
 pub enum Tool {
     /// `systemd-tmpfiles`

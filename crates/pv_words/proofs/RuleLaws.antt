@@ -7,7 +7,7 @@ use Rattle.std.proofs.lemmas.Bool.{not-true}
 use Rattle.clap.specs.Walk.{Row, Rule, arg_by_id, arg_by_index, arg_by_long, has_row, takes_values, used, with_default, with_values, without}
 use Rattle.clap.specs.Simple.{Shape, built, filled, with_index}
 use Rattle.clap.specs.Kinds.{Kinds, or_else}
-use Rattle.clap.specs.Faults.{check_fault, default_fault, defaults_fault, is_simple_and_free, use_fault}
+use Rattle.clap.specs.Faults.{default_fault, defaults_fault, is_simple_and_free, use_fault}
 use Rattle.clap.specs.declared.builder.value_parser.Reading.TheVariants.{AsWritten}
 use Rattle.clap.specs.declared.error.kind.ErrorKind.TheVariants.{ArgumentConflict, InvalidValue}
 use Rattle.clap.specs.declared.parser.matches.ValueSource.TheVariants.{CommandLine}
@@ -201,6 +201,3 @@ each-fine (o ∷ options) rows = past _ _ (option-fine (name_of o) (valued o) ro
 
 pub defaults-pass : (rows : List Row) → defaults_fault rows top.rules ≡ []
 defaults-pass rows = each-fine all_options rows
-
-pub checks-pass : (rows : List Row) → check_fault top rows false ≡ []
-checks-pass rows = refl

@@ -1,6 +1,5 @@
--- What `clap` reads of the words after the tool, and the options that it tells: its matches by its own
--- statement, judged as the meaning of words is (this profile's own rules on the options of
--- systemd-tmpfiles(8) and systemd-sysusers(8)).
+-- What `clap` reads of the arguments after the tool, and the options that follow from it. `clap`'s matches are used
+-- as its own definition gives them. What is allowed is as for the meaning of arguments.
 use Rattle.std.specs.Prelude.{◌≡◌, ℕ, Bool, true, false, not, ◌&&◌, ◌||◌, nat_eq, List, [], ◌∷◌, codes, Option, Some, None, option_and_then, Result, Ok, Err, if◌then◌else◌}
 use Rattle.std.specs.List.{list_any, starts_with}
 use Rattle.std.specs.Option.{option_map, option_map_or}
@@ -22,51 +21,52 @@ use Rattle.pv_words.specs.declared.words_fault.WordsFault.TheVariants.{Usage, Me
 use Rattle.pv_words.specs.declared.option.OptionName.{OptionName}
 use Rattle.pv_words.specs.declared.options.Options.{Options}
 
--- `-x..`: a word of one dash and more
+-- Whether an argument is a short option such as `-x`: one dash, and then something else than a dash.
 abbrev pub is_short : List ℕ → Bool
 is_short word = begins_with_dash word && not (is_dash word) && not (starts_with nat_eq word (codes "--"))
 
--- such a word stands before the end of the options
+-- Whether there is a short option before the end of the options.
 abbrev pub has_short : List (List ℕ) → Bool
 has_short [] = false
 has_short (word ∷ words) = not (same_bytes word (codes "--")) && (is_short word || has_short words)
 
--- an option stands where its entry is from the words, and is no default
+-- Whether an entry comes from the command line, and not from a default.
 abbrev pub is_from_words : Option ValueSource → Bool
 is_from_words None = false
 is_from_words (Some CommandLine) = true
 is_from_words (Some other) = false
 
--- whether an option stands, by the matches
+-- Whether an option is given, by the matches.
 abbrev pub is_found : Found → OptionName → Bool
 is_found found option = is_from_words (option_and_then (λ a. a.source) (matched_of found (row_of option).name))
 
--- the value of an option that stands, by the matches: the first of its entry
+-- The value of a given option, by the matches: the first one of its entry.
 abbrev pub value_in : Found → OptionName → Option (List ℕ)
 value_in found option = first_value found (row_of option).name
 
--- the file words, by the matches: the values of their entry, in the order given
+-- The FILE arguments, by the matches, in the order given.
 abbrev pub files_in : Found → List (List ℕ)
 files_in found = option_map_or raw_values (matched_of found (codes "files")) []
 
--- what `clap` does not settle: tools, needs and exclusions, and that no file word is a dash
+-- Whether what was found is allowed. `clap` leaves this open: which options a tool has and needs, which exclude each
+-- other, and that no FILE argument is `-`.
 abbrev pub is_allowed_in : Tool → Found → Bool
 is_allowed_in tool found = is_allowed tool (is_found found) (files_in found) && not (list_any is_dash (files_in found))
 
--- the options and file words that the matches tell, where they are allowed and each value is read
+-- The options of a run by the matches, if they are allowed and each value can be read.
 abbrev pub options_in : Tool → Found → Option Options
 options_in tool found =
     if is_allowed_in tool found
     then option_map (options_with tool (is_found found) (files_in found)) (values_read (value_in found))
     else None
 
--- the fault that a kind of `clap`'s stands for
+-- The fault for one of `clap`'s errors: out of memory, or wrong usage for any other.
 abbrev pub fault_of : ErrorKind → WordsFault
 fault_of OutOfMemory = Memory
 fault_of other = Usage
 
--- the matches tell each tool what the words mean to it, and a fault of usage comes only of words that mean
--- nothing to any
+-- The matches give each tool the meaning of the arguments. The answer `Usage` comes only if they mean nothing to any
+-- tool. Only the answer that memory ran out is always allowed.
 abbrev pub Reads : Result ArgMatches WordsFault → List (List ℕ) → Type 0
 Reads (Ok matches) words = (tool : Tool) → options_in tool (found_of matches) ≡ meaning_for tool words
 Reads (Err Usage) words = (tool : Tool) → meaning_for tool words ≡ None

@@ -1,8 +1,7 @@
--- What the next word may be: an option or a file word, the value of an option, or a file word after the
--- end of the options.
+-- What the next argument may be.
 use Rattle.pv_words.specs.declared.option.OptionName.{OptionName}
 
--- where one stands among the words
+-- An option or a FILE argument, the value of an option, or (after `--`) only a FILE argument.
 pub data Stage : Type 0 where
   Options : Stage
   ValueOf : OptionName → Stage

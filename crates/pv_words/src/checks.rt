@@ -1,4 +1,4 @@
-//! Which options may stand together, and which a tool needs.
+//! Which options may be given together, and which of them a tool needs.
 ghost use Rattle.std.specs.Prelude.{◌≡◌, ◌&&◌};
 ghost use Rattle.std.specs.List.{list_all, list_any};
 ghost use Rattle.clap.specs.Matches.{found_of};
@@ -11,21 +11,21 @@ use crate::option::{OptionName, all_options};
 use clap::ArgMatches;
 use pv_text::Tool;
 
-/// Whether one of the options stands.
+/// Returns whether at least one of the options is given.
 fn is_any_given(matches: &ArgMatches<'_>, options: &[OptionName]) -> bool
     ensures { result ≡ list_any (is_found (found_of matches.now)) options.now }
 {
     options.iter().any(|option| is_given(matches, *option))
 }
 
-/// Whether an option has the file word that it needs, if it needs one.
+/// Returns whether a file argument is given, if the option needs one.
 fn has_file(matches: &ArgMatches<'_>, option: OptionName) -> bool
     ensures { result ≡ has_file option (files_in (found_of matches.now)) }
 {
     !option.needs_file() || has_file_words(matches)
 }
 
-/// Whether an option may stand as it does.
+/// Returns whether an option is not given, or may be given beside the others.
 fn may_stand(tool: Tool, matches: &ArgMatches<'_>, option: OptionName) -> bool
     ensures { result ≡ may_stand tool (is_found (found_of matches.now)) (files_in (found_of matches.now)) option }
 {
@@ -35,14 +35,15 @@ fn may_stand(tool: Tool, matches: &ArgMatches<'_>, option: OptionName) -> bool
             && has_file(matches, option))
 }
 
-/// Whether the options may stand together, one stands that the tool needs, and no file word is one dash.
+/// Returns whether the options may be given together, one that the tool needs is given, and no file argument is
+/// `-`.
 pub(crate) fn is_allowed(tool: Tool, matches: &ArgMatches<'_>) -> bool
     ensures { result ≡ is_allowed_in tool (found_of matches.now) }
 {
     each_may_stand(tool, matches) && has_needed(tool, matches) && !has_dash(matches)
 }
 
-/// Whether each option may stand as it does.
+/// Returns whether each option is not given, or may be given beside the others.
 fn each_may_stand(tool: Tool, matches: &ArgMatches<'_>) -> bool
     ensures { result ≡ list_all (may_stand tool (is_found (found_of matches.now)) (files_in (found_of matches.now))) all_options }
 {
@@ -51,21 +52,21 @@ fn each_may_stand(tool: Tool, matches: &ArgMatches<'_>) -> bool
         .all(|option| may_stand(tool, matches, *option))
 }
 
-/// Whether one option stands that the tool needs, if it needs one.
+/// Returns whether an option that the tool needs is given, if it needs one.
 fn has_needed(tool: Tool, matches: &ArgMatches<'_>) -> bool
     ensures { result ≡ has_needed (is_found (found_of matches.now)) (needed_by tool) }
 {
     !needs_one(tool) || is_one_given(tool, matches)
 }
 
-/// Whether the tool needs one of its options.
+/// Returns whether the tool needs one of its options.
 fn needs_one(tool: Tool) -> bool
     ensures { result ≡ list_any (suffices_for tool) all_options }
 {
     all_options().iter().any(|option| option.suffices_for(tool))
 }
 
-/// Whether an option stands that suffices for the tool.
+/// Returns whether an option is given that suffices for the tool.
 fn is_one_given(tool: Tool, matches: &ArgMatches<'_>) -> bool
     ensures { result ≡ list_any (λ option. suffices_for tool option && is_found (found_of matches.now) option) all_options }
 {

@@ -1,4 +1,4 @@
-//! The command line for `clap`, made from the option table.
+//! The command for `clap`, made from the option table.
 ghost use Rattle.std.specs.Prelude.{◌≡◌, IfOk, false};
 ghost use Rattle.clap.specs.Simple.{app_of, with_rule};
 ghost use Rattle.clap.specs.Walk.{rule_of};
@@ -8,7 +8,7 @@ use crate::option::{OptionName, all_options};
 use clap::{Arg, ArgAction, Command};
 use std::alloc::{AllocError, Global};
 
-/// The command by which `clap` reads the words after the tool.
+/// Returns the command by which `clap` reads the arguments after the name of the tool.
 pub(crate) fn command<'a>(alloc: Global) -> Result<Command<'a>, AllocError>
     ensures { IfOk result (λ c. app_of c ≡ words_app) }
 {
@@ -17,7 +17,8 @@ pub(crate) fn command<'a>(alloc: Global) -> Result<Command<'a>, AllocError>
     with_arg(command, files_arg(alloc))
 }
 
-/// The command without arguments: no word is the program's name, and there is no help and no version.
+/// Returns a command without options, where no argument is the name of the program, and there is no help and no
+/// version.
 fn bare_command<'a>(alloc: Global) -> Command<'a>
     ensures { app_of result ≡ bare_app }
 {
@@ -27,7 +28,7 @@ fn bare_command<'a>(alloc: Global) -> Command<'a>
         .disable_version_flag(true)
 }
 
-/// The command with the options at its end.
+/// Adds the options at the end of a command.
 fn with_options<'a>(
     command: Command<'a>,
     alloc: Global,
@@ -42,7 +43,7 @@ fn with_options<'a>(
     Ok(command)
 }
 
-/// The command with one more argument.
+/// Adds one option, or the file arguments, at the end of a command.
 fn with_arg<'a>(command: Command<'a>, arg: Arg<'a>) -> Result<Command<'a>, AllocError>
     requires { arg.global ≡ false }
     ensures { IfOk result (λ c. app_of c ≡ with_rule (app_of command.entry) (rule_of arg.entry)) }
@@ -50,7 +51,7 @@ fn with_arg<'a>(command: Command<'a>, arg: Arg<'a>) -> Result<Command<'a>, Alloc
     command.arg(arg)
 }
 
-/// An option of the table, which stands once with one value, or is a flag.
+/// Returns an option of the table for `clap`. It is given once with one value, or is a flag.
 fn option_arg<'a>(alloc: Global, option: OptionName) -> Arg<'a>
     ensures rule { rule_of result ≡ option_rule option }
     ensures local { result.global ≡ false }
@@ -58,7 +59,7 @@ fn option_arg<'a>(alloc: Global, option: OptionName) -> Arg<'a>
     named_arg(alloc, option.name(), action_of(option))
 }
 
-/// An option with a name.
+/// Returns an option with this name for `clap`.
 fn named_arg<'a>(alloc: Global, name: &'a str, action: ArgAction) -> Arg<'a>
     ensures rule { rule_of result ≡ rule_named name.entry.now action }
     ensures local { result.global ≡ false }
@@ -66,7 +67,7 @@ fn named_arg<'a>(alloc: Global, name: &'a str, action: ArgAction) -> Arg<'a>
     Arg::new(alloc, name).long(name).action(action)
 }
 
-/// What a use of an option does: it sets its value, or its flag.
+/// Returns what a use of an option does: it sets its value, or its flag.
 fn action_of(option: OptionName) -> ArgAction
     ensures { result ≡ action_of option }
 {
@@ -77,7 +78,7 @@ fn action_of(option: OptionName) -> ArgAction
     }
 }
 
-/// The file words.
+/// Returns the file arguments for `clap`.
 fn files_arg<'a>(alloc: Global) -> Arg<'a>
     ensures rule { rule_of result ≡ files_rule }
     ensures local { result.global ≡ false }

@@ -1,4 +1,4 @@
-//! What the words of a command ask for.
+//! What the arguments of the command line ask for.
 ghost use Rattle.std.specs.Prelude.{◌≡◌, map, string_bytes};
 ghost use Rattle.pv_words.specs.Answered.{Answers};
 ghost use Rattle.pv_words.specs.Invocation.{parse_args, count_value, generate_by, generate_of};
@@ -8,21 +8,25 @@ use crate::values::decimal_value;
 use crate::words_fault::WordsFault;
 use std::alloc::Global;
 
-/// What the words of a command ask for.
+/// What the arguments of the command line ask for.
 #[derive(Drop)]
 pub enum Invocation {
-    /// A run over the tree of the input.
+    /// A run of one of the tools over the tree in the input.
     Run(Options),
-    /// A run over the tree that is generated from a seed, with a configuration of so many lines, 1 to 2000.
+    /// A run over a random tree from the number `seed`, with `count` random configuration lines, 1 to 2000.
     Generate { seed: u64, count: u32 },
 }
 
-/// The most lines of a generated configuration.
+/// The most random configuration lines.
 const MOST_LINES: u32 = 2000;
 
-/// What the words of a command ask for: `generate SEED COUNT`, or else what its tool and options mean.
+/// Reads the arguments of the command line, without the name of the program.
 ///
-/// `Usage` comes exactly if they mean nothing.
+/// If the first argument is `generate`, exactly two more must follow. The seed is a decimal number below 2^64, and the
+/// count is a decimal number from 1 to 2000. Otherwise the arguments are read by `options_of`.
+///
+/// The error is `Usage` exactly if the arguments mean nothing. `Memory` may come instead if an allocation fails.
+/// For example, `generate 7 100` gives `Generate { seed: 7, count: 100 }`.
 pub fn parse_args(alloc: Global, words: &[String]) -> Result<Invocation, WordsFault>
     ensures { Answers result (parse_args (map string_bytes words.now)) }
 {
@@ -38,7 +42,7 @@ pub fn parse_args(alloc: Global, words: &[String]) -> Result<Invocation, WordsFa
     }
 }
 
-/// What the words after `generate` ask for: exactly a seed and a count.
+/// Reads the arguments after `generate`: exactly a seed and a count.
 fn generate_of(words: &[String]) -> Option<Invocation>
     ensures { result ≡ generate_of (map string_bytes words.now) }
 {
@@ -52,7 +56,7 @@ fn generate_of(words: &[String]) -> Option<Invocation>
     }
 }
 
-/// The count of lines that a text spells: a decimal from 1 to 2000.
+/// Reads a count of lines: a decimal number from 1 to 2000.
 fn count_value(text: &[u8]) -> Option<u32>
     ensures { result ≡ count_value text.now }
 {

@@ -1,5 +1,5 @@
-//! The words of both tools: an option table decides for every list of words whether it means anything,
-//! and what.
+//! Reads the arguments of the command line. One option table decides for every list of them whether it means
+//! anything, and what.
 #![tactic(auto)]
 
 mod checks;

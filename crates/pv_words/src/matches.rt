@@ -1,4 +1,4 @@
-//! What `clap` reads from the words after the tool.
+//! What `clap` reads from the arguments after the name of the tool.
 ghost use Rattle.std.specs.Prelude.{◌≡◌, IfOk, length, map, nat_lt, string_bytes};
 ghost use Rattle.std.specs.List.{list_any};
 ghost use Rattle.std.specs.Option.{option_map};
@@ -15,7 +15,7 @@ use clap::parser::ValueSource;
 use pv_path::{Bytes, Sequence, WordList};
 use std::alloc::{AllocError, Global};
 
-/// What `clap` reads of the words after the tool.
+/// Reads the arguments after the name of the tool by `clap`.
 pub(crate) fn matches_of<'a>(
     alloc: Global,
     words: &'a [String],
@@ -32,7 +32,7 @@ pub(crate) fn matches_of<'a>(
     }
 }
 
-/// The fault that a kind of `clap`'s stands for.
+/// Returns the fault for a kind of error of `clap`.
 fn fault_of(kind: ErrorKind) -> WordsFault
     ensures { result ≡ fault_of kind }
 {
@@ -42,7 +42,7 @@ fn fault_of(kind: ErrorKind) -> WordsFault
     }
 }
 
-/// Whether a word of one dash and more stands before the end of the options.
+/// Returns whether an argument before `--` begins with one dash and has more bytes, such as `-x`.
 fn has_short(words: &[String]) -> bool
     ensures { result ≡ has_short (map string_bytes words.now) }
 {
@@ -58,35 +58,35 @@ fn has_short(words: &[String]) -> bool
     false
 }
 
-/// Whether a word is one dash and more.
+/// Returns whether an argument begins with one dash and has more bytes.
 fn is_short(word: &str) -> bool
     ensures { result ≡ is_short word.now }
 {
     begins_with_dash(word.as_bytes()) && !is_dash(word) && !word.starts_with("--")
 }
 
-/// Whether the word begins with a dash.
+/// Returns whether the argument begins with a dash.
 pub(crate) fn begins_with_dash(word: &[u8]) -> bool
     ensures { result ≡ begins_with_dash word.now }
 {
     word.first() == Some(&b'-')
 }
 
-/// Whether an option stands among the words.
+/// Returns whether an option is among the arguments.
 pub(crate) fn is_given(matches: &ArgMatches<'_>, option: OptionName) -> bool
     ensures { result ≡ is_found (found_of matches.now) option }
 {
     is_from_words(matches.value_source(option.name()))
 }
 
-/// Whether an entry is from the words, and is no default.
+/// Returns whether a value comes from the arguments, and is not a default.
 fn is_from_words(source: Option<ValueSource>) -> bool
     ensures { result ≡ is_from_words source }
 {
     matches!(source, Some(ValueSource::CommandLine))
 }
 
-/// The value of an option that stands.
+/// Returns the value of an option that is given.
 pub(crate) fn value_of<'a>(matches: &ArgMatches<'a>, option: OptionName) -> Option<&'a [u8]>
     ensures { option_map (λ v. v.now) result ≡ value_in (found_of matches.now) option }
 {
@@ -94,7 +94,7 @@ pub(crate) fn value_of<'a>(matches: &ArgMatches<'a>, option: OptionName) -> Opti
     Some(value.as_bytes())
 }
 
-/// The file words, in the order given.
+/// Returns the file arguments, in the order given.
 pub(crate) fn files_of(alloc: Global, matches: &ArgMatches<'_>) -> Result<WordList, AllocError>
     ensures { IfOk result (λ words. words ≡ files_in (found_of matches.now)) }
 {
@@ -104,7 +104,7 @@ pub(crate) fn files_of(alloc: Global, matches: &ArgMatches<'_>) -> Result<WordLi
     }
 }
 
-/// Copies of the texts.
+/// Returns copies of the texts.
 fn words_of(alloc: Global, texts: &[&str]) -> Result<WordList, AllocError>
     ensures { IfOk result (λ words. words ≡ map (λ t. t.now) texts.now) }
 {
@@ -115,7 +115,7 @@ fn words_of(alloc: Global, texts: &[&str]) -> Result<WordList, AllocError>
     Ok(words)
 }
 
-/// Whether there is a file word.
+/// Returns whether there is a file argument.
 pub(crate) fn has_file_words(matches: &ArgMatches<'_>) -> bool
     ensures { result ≡ nat_lt 0 (length (files_in (found_of matches.now))) }
 {
@@ -125,7 +125,7 @@ pub(crate) fn has_file_words(matches: &ArgMatches<'_>) -> bool
     }
 }
 
-/// Whether a file word is one dash.
+/// Returns whether a file argument is `-`.
 pub(crate) fn has_dash(matches: &ArgMatches<'_>) -> bool
     ensures { result ≡ list_any is_dash (files_in (found_of matches.now)) }
 {
@@ -135,14 +135,14 @@ pub(crate) fn has_dash(matches: &ArgMatches<'_>) -> bool
     }
 }
 
-/// Whether a text is one dash.
+/// Returns whether a text is `-`.
 pub(crate) fn is_dash(text: &str) -> bool
     ensures { result ≡ is_dash text.now }
 {
     text == "-"
 }
 
-/// Whether one of the texts is one dash.
+/// Returns whether one of the texts is `-`.
 fn is_any_dash(texts: &[&str]) -> bool
     ensures { result ≡ list_any (λ t. is_dash t.now) texts.now }
 {

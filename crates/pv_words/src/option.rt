@@ -1,4 +1,4 @@
-//! The option table: a row for each option.
+//! The option table, with a row for each option.
 ghost use Rattle.std.specs.Prelude.{◌≡◌};
 ghost use Rattle.pv_words.specs.Table.{Row as RowValue};
 ghost use Rattle.pv_words.specs.Table.{all_options, is_flag, is_for, of_both, of_tmpfiles, row_of, suffices_for, takes_value, tool_named, with_file};
@@ -27,30 +27,30 @@ pub(crate) enum OptionName {
 pub(crate) enum Reader {
     /// The option is a flag, which has no value.
     Flag,
-    /// The value is a path.
+    /// The value is an absolute path.
     PathOf,
-    /// The value is a decimal of 64 bits.
+    /// The value is a decimal number below 2^64.
     Decimal,
-    /// The value is a moment, from 1970 on.
+    /// The value is a time, from 1970 on.
     Moment,
 }
 
 /// A row of the table.
 #[derive(Drop)]
 struct Row<'a> {
-    /// What the option is called, without its dashes.
+    /// The name of the option, without its two dashes.
     name: &'a str,
-    /// Whether `systemd-tmpfiles` knows it.
+    /// Whether `systemd-tmpfiles` has the option.
     for_tmpfiles: bool,
-    /// Whether `systemd-sysusers` knows it.
+    /// Whether `systemd-sysusers` has the option.
     for_sysusers: bool,
     /// How its value is read.
     reader: Reader,
-    /// Whether it suffices as the one that a tool needs.
+    /// Whether it suffices as the one option that a tool needs.
     suffices: bool,
-    /// The options beside which it may not stand.
+    /// The options that may not be given beside it.
     excludes: &'a [OptionName],
-    /// Whether it needs a file word.
+    /// Whether it needs a file argument.
     needs_file: bool,
 }
 
@@ -84,7 +84,7 @@ const ALL_OPTIONS: [OptionName; 11] = [
 ];
 
 impl<'a> Row<'a> {
-    /// A row for an option of `systemd-tmpfiles` alone.
+    /// Makes a row for an option of `systemd-tmpfiles` alone.
     fn of_tmpfiles(
         name: &'a str,
         reader: Reader,
@@ -104,7 +104,7 @@ impl<'a> Row<'a> {
         }
     }
 
-    /// A row for an option of both tools.
+    /// Makes a row for an option of both tools.
     fn of_both(name: &'a str, reader: Reader, suffices: bool, excludes: &'a [OptionName]) -> Row<'a>
         ensures { result ≡ of_both name.now reader suffices excludes.now }
     {
@@ -119,7 +119,7 @@ impl<'a> Row<'a> {
         }
     }
 
-    /// Makes a row one of an option that needs a file word.
+    /// Makes the row one of an option that needs a file argument.
     fn with_file(mut self) -> Row<'a>
         ensures { result ≡ with_file self.entry }
     {
@@ -129,8 +129,8 @@ impl<'a> Row<'a> {
 }
 
 impl OptionName {
-    /// The row of the option: its name, its reader, whether it suffices, what it excludes, and whether it needs a
-    /// file word.
+    /// Returns the row of the option: name, reader, whether it suffices, what it excludes, and whether it needs a
+    /// file argument.
     fn row<'a>(self) -> Row<'a>
         ensures { result ≡ row_of self }
     {
@@ -184,21 +184,21 @@ impl OptionName {
         }
     }
 
-    /// What the option is called, without its dashes.
+    /// Returns the name of the option, without its two dashes.
     pub(crate) fn name<'a>(self) -> &'a str
         ensures { result.now ≡ (row_of self).name }
     {
         self.row().name
     }
 
-    /// Whether a value follows the option.
+    /// Returns whether the option has a value.
     pub(crate) fn takes_value(self) -> bool
         ensures { result ≡ takes_value (row_of self) }
     {
         !is_flag(self.row().reader)
     }
 
-    /// Whether the tool knows the option.
+    /// Returns whether the tool has the option.
     pub(crate) fn is_for(self, tool: Tool) -> bool
         ensures { result ≡ is_for tool self }
     {
@@ -208,21 +208,21 @@ impl OptionName {
         }
     }
 
-    /// Whether the option suffices as the one that the tool needs.
+    /// Returns whether the option suffices as the one that the tool needs.
     pub(crate) fn suffices_for(self, tool: Tool) -> bool
         ensures { result ≡ suffices_for tool self }
     {
         self.is_for(tool) && self.row().suffices
     }
 
-    /// The options beside which this one may not stand.
+    /// Returns the options that may not be given beside this one.
     pub(crate) fn excludes(self) -> &'static [OptionName]
         ensures { result.now ≡ (row_of self).excludes }
     {
         self.row().excludes
     }
 
-    /// Whether the option needs a file word.
+    /// Returns whether the option needs a file argument.
     pub(crate) fn needs_file(self) -> bool
         ensures { result ≡ (row_of self).needs_file }
     {
@@ -230,21 +230,21 @@ impl OptionName {
     }
 }
 
-/// Whether a reader is the one of flags.
+/// Returns whether the reader is that of flags.
 fn is_flag(reader: Reader) -> bool
     ensures { result ≡ is_flag reader }
 {
     matches!(reader, Reader::Flag)
 }
 
-/// All options of the table.
+/// Returns all options of the table.
 pub(crate) fn all_options() -> [OptionName; 11]
     ensures { result ≡ all_options }
 {
     ALL_OPTIONS
 }
 
-/// The tool with a name.
+/// Returns the tool with this name.
 pub(crate) fn tool_named(name: &[u8]) -> Option<Tool>
     ensures { result ≡ tool_named name.now }
 {

@@ -1,4 +1,4 @@
-//! From words to the options that they mean.
+//! Reads the options and file arguments of a tool.
 ghost use Rattle.std.specs.Prelude.{◌≡◌, map, string_bytes};
 ghost use Rattle.std.specs.Option.{option_map};
 ghost use Rattle.clap.specs.Matches.{found_of};
@@ -17,38 +17,38 @@ use pv_path::{TreePath, WordList};
 use pv_text::Tool;
 use std::alloc::Global;
 
-/// The parsed command-line options and operands of a tool.
+/// The options and file arguments of a run of a tool. docs/USAGE.md says what each of them does.
 #[derive(Drop)]
 pub struct Options {
-    /// The tool, which the first word names.
+    /// The tool, which the first argument names.
     pub tool: Tool,
-    /// `--create`
+    /// Whether `--create` is given (systemd-tmpfiles(8)).
     pub create: bool,
-    /// `--remove`
+    /// Whether `--remove` is given.
     pub remove: bool,
-    /// `--clean`
+    /// Whether `--clean` is given.
     pub clean: bool,
-    /// `--report`
+    /// Whether `--report` is given.
     pub report: bool,
-    /// `--purge`
+    /// Whether `--purge` is given.
     pub purge: bool,
-    /// `--explain`, a path
+    /// The path of `--explain`, if it is given.
     pub explain: Option<TreePath>,
-    /// `--boot`
+    /// Whether `--boot` is given.
     pub boot: bool,
-    /// `--prefix`, a path
+    /// The path of `--prefix`, if it is given.
     pub prefix: Option<TreePath>,
-    /// `--exclude-prefix`, a path
+    /// The path of `--exclude-prefix`, if it is given.
     pub exclude_prefix: Option<TreePath>,
-    /// `--stop-after`, a number of steps
+    /// The number of steps of `--stop-after`, if it is given.
     pub stop_after: Option<u64>,
-    /// `--now`, in microseconds since 1970
+    /// The time of `--now`, if it is given, in microseconds since 1970-01-01 UTC.
     pub now: Option<u64>,
-    /// The file words, in the order given.
+    /// The file arguments, in the order given.
     pub words: WordList,
 }
 
-/// The values of the options that take one.
+/// The values of the options that have one.
 #[derive(Drop)]
 struct Values {
     explain: Option<TreePath>,
@@ -58,9 +58,19 @@ struct Values {
     now: Option<u64>,
 }
 
-/// What the words of a command mean, the first of which names the tool.
+/// Reads the options and file arguments of a tool, which the first argument names (systemd-tmpfiles(8),
+/// systemd-sysusers(8)).
 ///
-/// `Usage` comes exactly if they mean nothing.
+/// An option is `--NAME`, `--NAME=VALUE` or `--NAME VALUE`, with its full name, and is given at most once. Options
+/// and file arguments may alternate. After `--` all arguments are file arguments. A value after a space does not
+/// begin with a dash, except that it may be `-`. A file argument is never `-`.
+///
+/// `systemd-tmpfiles` needs at least one of `--create`, `--remove`, `--clean`, `--purge`, `--report` and `--explain`.
+/// `--purge` needs a file argument. None of `--purge`, `--report` and `--explain` may be given together with any other
+/// of these six. `--report` and `--explain` exclude `--stop-after` too. `systemd-sysusers` has only `--stop-after` and
+/// `--now`.
+///
+/// The error is `Usage` exactly if the arguments mean nothing. `Memory` may come instead if an allocation fails.
 pub fn options_of(alloc: Global, words: &[String]) -> Result<Options, WordsFault>
     ensures { Answers result (options_of (map string_bytes words.now)) }
 {
@@ -73,7 +83,7 @@ pub fn options_of(alloc: Global, words: &[String]) -> Result<Options, WordsFault
     }
 }
 
-/// What the words after the tool mean.
+/// Reads the arguments after the name of the tool.
 fn options_for(alloc: Global, tool: Tool, words: &[String]) -> Result<Options, WordsFault>
     ensures { Answers result (meaning_for tool (map string_bytes words.now)) }
 {
@@ -81,7 +91,7 @@ fn options_for(alloc: Global, tool: Tool, words: &[String]) -> Result<Options, W
     options_from(alloc, tool, &matches)
 }
 
-/// The options and file words, where the options may stand together and each value is read.
+/// Makes the options, if they may be given together and each value can be read.
 fn options_from(alloc: Global, tool: Tool, matches: &ArgMatches<'_>) -> Result<Options, WordsFault>
     ensures { Answers result (options_in tool (found_of matches.now)) }
 {
@@ -92,7 +102,7 @@ fn options_from(alloc: Global, tool: Tool, matches: &ArgMatches<'_>) -> Result<O
     }
 }
 
-/// The options and file words, where each value is read.
+/// Makes the options, if each value can be read.
 fn read_options(alloc: Global, tool: Tool, matches: &ArgMatches<'_>) -> Result<Options, WordsFault>
     ensures { Answers result
         (option_map (options_with tool (is_found (found_of matches.now)) (files_in (found_of matches.now)))
@@ -103,7 +113,7 @@ fn read_options(alloc: Global, tool: Tool, matches: &ArgMatches<'_>) -> Result<O
     Ok(options_with(tool, matches, words, values))
 }
 
-/// The options that stand, with their values, and the file words.
+/// Makes the options from those that are given, the file arguments and the values.
 fn options_with(tool: Tool, matches: &ArgMatches<'_>, words: WordList, values: Values) -> Options
     ensures { result ≡ options_with tool (is_found (found_of matches.now)) words values }
 {
@@ -124,7 +134,7 @@ fn options_with(tool: Tool, matches: &ArgMatches<'_>, words: WordList, values: V
     }
 }
 
-/// The values of the options that stand, where each is read.
+/// Reads the values of the options that are given.
 fn values_of(alloc: Global, matches: &ArgMatches<'_>) -> Result<Values, WordsFault>
     ensures { Answers result (values_read (value_in (found_of matches.now))) }
 {

@@ -1,4 +1,4 @@
-//! Words that ask for a run on a folder.
+//! Reads arguments that ask for a run on a folder.
 ghost use Rattle.std.specs.Prelude.{◌≡◌, ◌<◌, ◌++◌, ◌∷◌, ◌==◌, not, false, drop, length, map, string_bytes, IfOk, IfSome, OnOk};
 ghost use Rattle.std.specs.List.{list_all, list_any};
 ghost use Rattle.pv_path.specs.Names.{same_bytes};
@@ -16,16 +16,16 @@ use pv_path::Bytes;
 use std::alloc::{AllocError, Global};
 use std::marker::Model;
 
-/// A run on a folder.
+/// A run of a tool on a folder.
 #[derive(Drop)]
 pub struct Rooted {
-    /// The folder, which `--root` names.
+    /// The path of the folder, which `--root` names: at least one byte, and no NUL.
     pub folder: Bytes,
-    /// What the other words mean.
+    /// What the arguments without `--root` mean.
     pub options: Options,
 }
 
-/// The value of `--root`, and the words before and after the option and its value.
+/// The value of `--root`, and the arguments before and after the option and its value.
 #[derive(Drop)]
 struct Cut<'a> {
     folder: &'a [u8],
@@ -39,9 +39,13 @@ impl<'a> Model for Cut<'a> {
     ghost view = { λ c. record { folder = c.folder.now; others = map string_bytes c.before.now ++ map string_bytes c.after.now } };
 }
 
-/// The folder that words name by `--root`, with what the other words mean.
+/// Reads arguments that ask for a run on a folder. The first of them names the tool.
 ///
-/// `Usage` comes exactly if they name none, or the other words mean nothing.
+/// `--root=FOLDER` or `--root FOLDER` is given exactly once, not after `--`, and not as the value of another
+/// option. FOLDER has at least one byte and no NUL. The arguments without it are read by `options_of`.
+///
+/// The error is `Usage` exactly if they name no such folder, or the other arguments mean nothing. `Memory` may come
+/// instead if an allocation fails.
 pub fn rooted_of(alloc: Global, words: &[String]) -> Result<Rooted, WordsFault>
     ensures { Answers result (rooted_of (map string_bytes words.now)) }
 {
@@ -55,7 +59,7 @@ pub fn rooted_of(alloc: Global, words: &[String]) -> Result<Rooted, WordsFault>
     }
 }
 
-/// The folder, with what the other words mean.
+/// Makes the value from the folder and the other arguments.
 fn rooted_with(alloc: Global, folder: &[u8], others: &[String]) -> Result<Rooted, WordsFault>
     ensures { Answers result (rooted_with folder.now (options_of (map string_bytes others.now))) }
 {
@@ -67,21 +71,21 @@ fn rooted_with(alloc: Global, folder: &[u8], others: &[String]) -> Result<Rooted
     Ok(Rooted { folder, options })
 }
 
-/// Whether bytes name a folder.
+/// Returns whether the bytes may be the path of a folder: at least one byte, and no NUL.
 fn is_folder(bytes: &[u8]) -> bool
     ensures { result ≡ is_folder bytes.now }
 {
     !bytes.is_empty() && has_no_nul(bytes)
 }
 
-/// Whether no byte is NUL.
+/// Returns whether no byte is NUL.
 fn has_no_nul(bytes: &[u8]) -> bool
     ensures { result ≡ list_all (λ b. not (b == 0)) bytes.now }
 {
     bytes.iter().all(|b| *b != 0)
 }
 
-/// Copies of a word and of two lists of words.
+/// Returns copies of an argument and of two lists of arguments, one after another.
 fn joined(
     alloc: Global,
     word: &String,
@@ -97,7 +101,7 @@ fn joined(
     Ok(words)
 }
 
-/// Adds copies of words.
+/// Adds copies of the arguments `more` at the end.
 fn add_copies(words: &mut Vec<String>, more: &[String]) -> Result<(), AllocError>
     ensures { OnOk result (map string_bytes words.new.items ≡ map string_bytes words.old.items ++ map string_bytes more.now) }
 {
@@ -107,7 +111,7 @@ fn add_copies(words: &mut Vec<String>, more: &[String]) -> Result<(), AllocError
     Ok(())
 }
 
-/// The value of `--root`, and the words before and after the option and its value.
+/// Returns the value of `--root`, and the arguments before and after the option and its value.
 fn cut_of(words: &[String]) -> Option<Cut<'_>>
     ensures { result ≡ cut_of (map string_bytes words.now) }
 {
@@ -116,7 +120,7 @@ fn cut_of(words: &[String]) -> Option<Cut<'_>>
     cut_by(before, from)
 }
 
-/// The value of `--root` and the words around it, from the words before `--root` and those from it on.
+/// Returns the same, from the arguments before `--root` and those from it on.
 fn cut_by<'a>(before: &'a [String], from: &'a [String]) -> Option<Cut<'a>>
     ensures { result ≡ cut_by (map string_bytes before.now) (map string_bytes from.now) }
 {
@@ -137,7 +141,7 @@ fn cut_by<'a>(before: &'a [String], from: &'a [String]) -> Option<Cut<'a>>
     }
 }
 
-/// The value of `--root` if it is the next word, if that may be a value, and the words around it.
+/// Returns the same, where the value of `--root` is the next argument, if that may be a value.
 fn cut_next<'a>(before: &'a [String], words: &'a [String]) -> Option<Cut<'a>>
     ensures { result ≡ cut_next (map string_bytes before.now) (map string_bytes words.now) }
 {
@@ -157,7 +161,7 @@ fn cut_next<'a>(before: &'a [String], words: &'a [String]) -> Option<Cut<'a>>
     }
 }
 
-/// What stands behind `--root=`.
+/// Returns what comes after `--root=`.
 fn value_in(word: &[u8]) -> &[u8]
     ensures { result.now ≡ drop 7 word.now }
 {
@@ -167,7 +171,7 @@ fn value_in(word: &[u8]) -> &[u8]
     }
 }
 
-/// The place of the first `--root` among the options.
+/// Returns the index of the first `--root` among the options.
 fn root_place(words: &[String]) -> Option<usize>
     ensures place { result ≡ root_place false 0 (map string_bytes words.now) }
     ensures within { IfSome result (λ i. i < length words.now) }
@@ -188,35 +192,35 @@ fn root_place(words: &[String]) -> Option<usize>
     None
 }
 
-/// `--root` or `--root=..`
+/// Returns whether an argument is `--root`, or begins with `--root=`.
 fn is_root(word: &[u8]) -> bool
     ensures { result ≡ is_root word.now }
 {
     word == b"--root".as_slice() || word.starts_with(b"--root=")
 }
 
-/// Whether a word is an option whose value is the next word.
+/// Returns whether an argument is an option whose value is the next argument.
 fn awaits_value(word: &[u8]) -> bool
     ensures { result ≡ awaits_value word.now }
 {
     word.starts_with(b"--") && is_any_alone(word)
 }
 
-/// Whether a word of two dashes is an option of the table that takes a value.
+/// Returns whether an argument that begins with two dashes is an option of the table with a value.
 fn is_any_alone(word: &[u8]) -> bool
     ensures { result ≡ list_any (is_alone word.now) all_options }
 {
     all_options().iter().any(|option| is_alone(word, *option))
 }
 
-/// Whether a word of two dashes is this option, which takes a value.
+/// Returns whether an argument that begins with two dashes is this option, and the option has a value.
 fn is_alone(word: &[u8], option: OptionName) -> bool
     ensures { result ≡ is_alone word.now option }
 {
     option.takes_value() && is_named(word, option.name().as_bytes())
 }
 
-/// Whether a name stands behind two dashes.
+/// Returns whether this name comes after the first two bytes.
 fn is_named(word: &[u8], name: &[u8]) -> bool
     ensures { result ≡ same_bytes (drop 2 word.now) name.now }
 {

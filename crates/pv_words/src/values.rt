@@ -1,4 +1,4 @@
-//! The values of options: paths, decimals and moments.
+//! Reads the values of options: paths, decimal numbers and times.
 ghost use Rattle.std.specs.Prelude.{◌≡◌, true};
 ghost use Rattle.std.specs.Option.{option_map};
 ghost use Rattle.std.specs.Str.{all_ascii_digits};
@@ -11,7 +11,7 @@ use pv_path::{PathFault, TreePath, parse_path};
 use std::alloc::Global;
 use std::str;
 
-/// The path that a value spells, if there is a value.
+/// Reads the path that a value spells, if there is a value.
 pub(crate) fn path_in(alloc: Global, value: Option<&[u8]>) -> Result<Option<TreePath>, WordsFault>
     ensures { Answers result (optional path_value (option_map (λ v. v.now) value.entry)) }
 {
@@ -21,7 +21,7 @@ pub(crate) fn path_in(alloc: Global, value: Option<&[u8]>) -> Result<Option<Tree
     }
 }
 
-/// The path that a text spells.
+/// Reads the path that a text spells.
 fn path_value(alloc: Global, text: &[u8]) -> Result<TreePath, WordsFault>
     ensures { Answers result (path_value text.now) }
 {
@@ -32,7 +32,7 @@ fn path_value(alloc: Global, text: &[u8]) -> Result<TreePath, WordsFault>
     }
 }
 
-/// The decimal that a value spells, if there is a value.
+/// Reads the decimal number that a value spells, if there is a value.
 pub(crate) fn decimal_in(value: Option<&[u8]>) -> Result<Option<u64>, WordsFault>
     ensures { Answers result (optional decimal_value (option_map (λ v. v.now) value.entry)) }
 {
@@ -42,7 +42,7 @@ pub(crate) fn decimal_in(value: Option<&[u8]>) -> Result<Option<u64>, WordsFault
     }
 }
 
-/// The number that one or more decimal digits spell, where it has 64 bits.
+/// Reads a number below 2^64 from one or more decimal digits.
 pub(crate) fn decimal_value(text: &[u8]) -> Option<u64>
     ensures { result ≡ decimal_value text.now }
 {
@@ -53,7 +53,7 @@ pub(crate) fn decimal_value(text: &[u8]) -> Option<u64>
     }
 }
 
-/// Whether all bytes are decimal digits.
+/// Returns whether all bytes are decimal digits.
 fn is_digits(text: &[u8]) -> bool
     ensures { result ≡ all_ascii_digits text.now }
 {
@@ -65,7 +65,7 @@ fn is_digits(text: &[u8]) -> bool
     true
 }
 
-/// The number that decimal digits spell, if there are any and it has 64 bits.
+/// Reads a number below 2^64 from decimal digits, if there are any.
 fn number_of(digits: &str) -> Option<u64>
     requires { all_ascii_digits digits.now ≡ true }
     ensures { result ≡ decimal_value digits.now }
@@ -73,7 +73,7 @@ fn number_of(digits: &str) -> Option<u64>
     digits.parse().ok()
 }
 
-/// The moment that a value spells, in microseconds since 1970, if there is a value.
+/// Reads the time that a value spells, in microseconds since 1970-01-01 UTC, if there is a value.
 pub(crate) fn moment_in(value: Option<&[u8]>) -> Result<Option<u64>, WordsFault>
     ensures { Answers result (optional moment_value (option_map (λ v. v.now) value.entry)) }
 {
@@ -83,7 +83,7 @@ pub(crate) fn moment_in(value: Option<&[u8]>) -> Result<Option<u64>, WordsFault>
     }
 }
 
-/// The moment that a text spells, in microseconds since 1970.
+/// Reads the time that a text spells, in microseconds since 1970-01-01 UTC.
 fn moment_value(text: &[u8]) -> Option<u64>
     ensures { result ≡ moment_value text.now }
 {
@@ -93,7 +93,7 @@ fn moment_value(text: &[u8]) -> Option<u64>
     }
 }
 
-/// The moment that a text of UTF-8 spells, in microseconds since 1970.
+/// Reads the time that a text of UTF-8 spells, in microseconds since 1970-01-01 UTC.
 fn timestamp_value(text: &str) -> Option<u64>
     ensures { result ≡ timestamp_value text.now }
 {
@@ -103,7 +103,7 @@ fn timestamp_value(text: &str) -> Option<u64>
     }
 }
 
-/// Microseconds since 1970, cut, where they are not negative and have 64 bits.
+/// Returns nanoseconds as whole microseconds, rounded down, if they are not negative and fit into 64 bits.
 fn micros_of(nanos: i128) -> Option<u64>
     ensures { result ≡ micros_of nanos }
 {

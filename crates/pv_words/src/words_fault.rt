@@ -1,17 +1,17 @@
-//! Why words mean nothing.
+//! Why arguments were not read.
 ghost use Rattle.std.specs.Prelude.{◌≡◌};
 ghost use Rattle.pv_words.specs.declared.words_fault.WordsFault.TheVariants.{Memory};
 
 use std::alloc::AllocError;
 use thiserror::Error;
 
-/// Why words have no meaning, or none was found.
+/// Why arguments were not read.
 #[derive(Clone, Copy, Debug, PartialEq, Eq, Error)]
 pub enum WordsFault {
-    /// The words have no meaning.
+    /// The arguments mean nothing, so the usage was wrong.
     #[error("Usage")]
     Usage,
-    /// Memory ran out.
+    /// An allocation failed.
     #[error("Memory")]
     Memory,
 }

@@ -72,9 +72,9 @@ returns-in_err-count-clause-cause g c h =
 pub returns-in_err-count-clause-never_falls : goal.returns-in_err-count-clause-never_falls
 returns-in_err-count-clause-never_falls g c = le_trans c.loop.invariant.faults c.in_err-count.ensures.never_falls
 
-pub returns-in_err-count-clause-front : goal.returns-in_err-count-clause-front
-returns-in_err-count-clause-front g c =
-    let more = c.in_err-count.ensures.front in
+pub returns-in_err-count-clause-prefix : goal.returns-in_err-count-clause-prefix
+returns-in_err-count-clause-prefix g c =
+    let more = c.in_err-count.ensures.prefix in
     (c.loop.content.items ++ more.0, Consumes-trans _ _ _ _ _ c.loop.invariant.taken more.1)
 
 pub returns-in_err-count-clause-reads : goal.returns-in_err-count-clause-reads
@@ -97,8 +97,8 @@ returns-then-count-eq0-clause-long g c =
     Consumes-whole _ _ content _ (taken_more _ _ _ _ content read.0 c.loop.invariant.taken read.2 read.3) (c.in_ok-count.ensures.end c.if-count-eq0.true)
     (λ more. absurd (no_more _ _ 67108864 size few more))
 
-pub returns-then-count-eq0-clause-front : goal.returns-then-count-eq0-clause-front
-returns-then-count-eq0-clause-front g c =
+pub returns-then-count-eq0-clause-prefix : goal.returns-then-count-eq0-clause-prefix
+returns-then-count-eq0-clause-prefix g c =
     let read = c.in_ok-count.ensures.ok in
     (c.read_piece.new.content.items, taken_more _ _ _ _ _ read.0 c.loop.invariant.taken read.2 read.3)
 
@@ -120,8 +120,8 @@ returns-then-is_too_long-clause-too_long g c _ =
 pub returns-then-is_too_long-clause-never_falls : goal.returns-then-is_too_long-clause-never_falls
 returns-then-is_too_long-clause-never_falls g c = le_trans c.loop.invariant.faults c.in_ok-count.ensures.never_falls
 
-pub returns-then-is_too_long-clause-front : goal.returns-then-is_too_long-clause-front
-returns-then-is_too_long-clause-front g c =
+pub returns-then-is_too_long-clause-prefix : goal.returns-then-is_too_long-clause-prefix
+returns-then-is_too_long-clause-prefix g c =
     let read = c.in_ok-count.ensures.ok in
     (c.read_piece.new.content.items, taken_more _ _ _ _ _ read.0 c.loop.invariant.taken read.2 read.3)
 
