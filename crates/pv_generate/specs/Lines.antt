@@ -1,18 +1,18 @@
--- The lines of a generated configuration: each of one of eight forms, over one of eight directories, as a number drawn for
--- it says (tmpfiles.d(5); the choice is this project's own).
+-- The lines of a generated configuration. A random number picks one of eight forms and one of eight directories for
+-- each line (tmpfiles.d(5); the choice is this project's own).
 use Rattle.std.specs.Prelude.{ℕ, ◌/◌, ◌%◌, ◌==◌, zero, suc, List, [], ◌++◌, codes, if◌then◌else◌}
 use Rattle.std.specs.Fmt.{decimal}
 use Rattle.pv_generate.specs.Drawing.{number_in, state_of}
 
--- a line over an object of its own number in a directory
+-- A line for an object in a directory, with the number of the line in its name.
 abbrev pub own_line : List ℕ → ℕ → List ℕ → ℕ → List ℕ → List ℕ
 own_line letters group name i rest = letters ++ codes " /data/g" ++ decimal group ++ name ++ decimal i ++ rest
 
--- a line over a directory, or over what a pattern names in it
+-- A line for a directory, or for what a pattern matches in it.
 abbrev pub shared_line : List ℕ → ℕ → List ℕ → List ℕ
 shared_line letters group rest = letters ++ codes " /data/g" ++ decimal group ++ rest
 
--- the line of a form, over a directory, with its own number
+-- The line of a form, for a directory, with the number of the line.
 abbrev pub line_in : ℕ → ℕ → ℕ → List ℕ
 line_in form group i =
     if form == 0 then own_line (codes "d") group (codes "/d") i (codes " 0700 0 0\n")
@@ -24,11 +24,11 @@ line_in form group i =
     else if form == 6 then shared_line (codes "a+") group (codes "/e* - - - - u:1:r\n")
     else shared_line (codes "Z") group (codes " ~0755\n")
 
--- the line that a number drawn for it gives
+-- The line for a random number, with the number of the line.
 abbrev pub line_of : ℕ → ℕ → List ℕ
 line_of number i = line_in (number / 8 % 8) (number % 8) i
 
--- the first lines of a seed
+-- The first lines of a seed.
 abbrev pub lines_of : ℕ → ℕ → List ℕ
 lines_of seed zero = []
 lines_of seed (suc i) = lines_of seed i ++ line_of (number_in (state_of seed (suc i))) i

@@ -1,8 +1,8 @@
-//! Numbers that are drawn one after the other from a seed.
+//! Pseudo-random numbers from a seed, by a linear congruential generator.
 ghost use Rattle.std.specs.Prelude.{◌≡◌, ◌<◌, ◌^◌, zero};
 ghost use Rattle.pv_generate.specs.Drawing.{next, state_of};
 
-/// The first state of a seed.
+/// Returns the first state of a seed.
 pub(crate) fn first(seed: u64) -> u64
     ensures value { result ≡ state_of seed zero }
     ensures bound { result < 2 ^ 31 }
@@ -10,7 +10,7 @@ pub(crate) fn first(seed: u64) -> u64
     seed % 2_147_483_648
 }
 
-/// The state after one.
+/// Returns the state that follows a state.
 pub(crate) fn next(state: u64) -> u64
     requires { state < 2 ^ 31 }
     ensures value { result ≡ next state }

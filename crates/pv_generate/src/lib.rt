@@ -1,4 +1,5 @@
-//! Trees that are generated from a seed: old files in eight directories, and a configuration of random lines for them.
+//! Generates trees from a seed: old files in eight directories, and a configuration of pseudo-random lines for
+//! them.
 #![tactic(auto)]
 
 mod counting;

@@ -7,7 +7,7 @@ ghost use Rattle.pv_generate.specs.Lines.{line_of, lines_of, own_line, shared_li
 use crate::drawing::{first, next};
 use std::alloc::{AllocError, Global};
 
-/// The first lines of a seed, each ended by a line feed.
+/// Returns the first `count` lines of a seed, each with a line feed at its end.
 pub(crate) fn lines_of(alloc: Global, seed: u64, count: u32) -> Result<Vec<u8>, AllocError>
     ensures text { IfOk result (λ text. text.items ≡ lines_of seed count) }
     ensures bytes { IfOk result (λ text. list_all (λ b. nat_lt b 256) text.items ≡ true) }
@@ -22,15 +22,15 @@ pub(crate) fn lines_of(alloc: Global, seed: u64, count: u32) -> Result<Vec<u8>, 
     Ok(text)
 }
 
-/// Tells that the items of a slice are bytes.
+/// Gives the proof of its caller the fact that the items of a slice are bytes. It does nothing when it runs.
 fn are_bytes(bytes: &[u8])
     ensures { list_all (λ b. nat_lt b 256) bytes.now ≡ true }
 {
     let _count = bytes.len();
 }
 
-/// A form of lines over objects of their own: the letters of the type, the beginning of the object's name, and the fields
-/// behind the path.
+/// A form of lines that make objects of their own: the letters of the type, the beginning of the name, and the
+/// fields after the path.
 #[derive(Clone, Copy)]
 struct Form<'a> {
     letters: &'a [u8],
@@ -59,14 +59,14 @@ const LINK: Form<'static> = Form {
     fields: b" - - - - /data\n",
 };
 
-/// A file that is made anew.
+/// A file that is truncated and written anew.
 const EMPTIED: Form<'static> = Form {
     letters: b"f+",
     name: b"/e",
     fields: b" - - - - more\n",
 };
 
-/// Adds the line that a number drawn for it gives.
+/// Appends the line that a pseudo-random number selects.
 fn add_line(alloc: Global, text: &mut Vec<u8>, number: u64, i: u32) -> Result<(), AllocError>
     ensures { OnOk result (text.new.items ≡ text.old.items ++ line_of number i) }
 {
@@ -83,7 +83,7 @@ fn add_line(alloc: Global, text: &mut Vec<u8>, number: u64, i: u32) -> Result<()
     }
 }
 
-/// Adds a line of a form over an object of its own number in a directory.
+/// Appends a line of a form for an object in a directory. The name of the object has the number of the line.
 fn add_own(
     alloc: Global,
     text: &mut Vec<u8>,
@@ -103,7 +103,7 @@ fn add_own(
     Ok(())
 }
 
-/// Adds a line over a directory, or over what a pattern names in it.
+/// Appends a line for a directory, or for what a pattern matches in it.
 fn add_shared(
     alloc: Global,
     text: &mut Vec<u8>,
@@ -120,7 +120,7 @@ fn add_shared(
     Ok(())
 }
 
-/// Adds a number in decimal.
+/// Appends a number in decimal.
 fn add_number(alloc: Global, text: &mut Vec<u8>, number: u64) -> Result<(), AllocError>
     ensures { OnOk result (text.new.items ≡ text.old.items ++ decimal number) }
 {

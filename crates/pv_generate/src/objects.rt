@@ -7,14 +7,14 @@ use pv_path::Bytes;
 use pv_steps::{Kind, Object};
 use std::alloc::{AllocError, Global};
 
-/// An object that root owns, all of whose timestamps are 0.
+/// Returns an object that belongs to root, with all timestamps 0.
 pub(crate) fn object(alloc: Global, kind: Kind, mode: u16, payload: Bytes) -> Object
     ensures { result ≡ fresh kind mode payload 0 0 0 }
 {
     Object::fresh(alloc, kind, mode, payload, 0, 0, 0)
 }
 
-/// The name of a letter and a number.
+/// Returns the name that has a letter and then a number in decimal.
 pub(crate) fn numbered(alloc: Global, letter: u8, n: u32) -> Result<Vec<u8>, AllocError>
     ensures { IfOk result (λ name. name.items ≡ numbered letter n) }
 {

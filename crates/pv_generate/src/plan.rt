@@ -1,20 +1,16 @@
-//! What is to stand at each path of a tree that is made at once.
-ghost use Rattle.std.specs.Prelude.{◌≡◌, [], true, IfOk, OnOk};
+//! Plans of trees: the object that a tree is to have at each path. The tree is then made in one go.
+ghost use Rattle.std.specs.Prelude.{◌≡◌, [], IfOk, OnOk};
 ghost use Rattle.std.specs.FinMap as fin;
-ghost use Rattle.std.specs.Ordering.{is_lt};
-ghost use Rattle.pv_path.specs.Paths.{parent_of, path_cmp};
-ghost use Rattle.pv_steps.specs.declared.node.Kind.TheVariants.{Directory};
-ghost use Rattle.pv_steps.specs.Objects.{IsObject};
-ghost use Rattle.pv_steps.specs.Trees.{IsKind, IsTree};
+ghost use Rattle.pv_steps.specs.Trees.{IsTree};
 
 use pv_path::TreePath;
 use pv_steps::Object;
-use pv_tree::{BuildFault, MemTree, TreeBuilder};
+use pv_tree::{MemTree, TreeBuilder};
 use std::alloc::{AllocError, Global};
 use std::collections::BTreeMap;
 use std::marker::Model;
 
-/// What is to stand at each path. Clauses see the finite map.
+/// The object that a tree is to have at each path. In contracts, a value is the finite map from paths to objects.
 #[derive(Drop)]
 pub(crate) struct Plan {
     objects: BTreeMap<TreePath, Object>,
@@ -34,7 +30,7 @@ impl Model for Plan {
 }
 
 impl Plan {
-    /// Nothing is to stand anywhere. It takes no memory.
+    /// Returns a plan without objects. The call does not allocate.
     pub(crate) fn new(alloc: Global) -> Plan
         ensures { result ≡ fin.empty }
     {
@@ -43,7 +39,7 @@ impl Plan {
         }
     }
 
-    /// Plans an object at a path, in the place of what was planned there.
+    /// Plans an object at a path. It replaces what was planned there.
     pub(crate) fn put(&mut self, path: TreePath, object: Object) -> Result<(), AllocError>
         ensures { OnOk result (self.new ≡ fin.insert self.old path object) }
     {
@@ -51,7 +47,7 @@ impl Plan {
         Ok(())
     }
 
-    /// The tree as planned, with no step recorded.
+    /// Returns the tree as planned, with no step recorded.
     pub(crate) fn grow(self, alloc: Global) -> Result<MemTree, AllocError>
         requires { IsTree self }
         ensures files { IfOk result (λ tree. tree.files ≡ self) }
@@ -62,7 +58,7 @@ impl Plan {
     }
 }
 
-/// The tree of objects at their paths.
+/// Returns the tree that has these objects at their paths.
 fn grow(alloc: Global, objects: BTreeMap<TreePath, Object>) -> Result<MemTree, AllocError>
     requires { IsTree (fin.from_entries objects.entries) }
     ensures files { IfOk result (λ tree. tree.files ≡ fin.from_entries objects.entries) }
@@ -74,21 +70,7 @@ fn grow(alloc: Global, objects: BTreeMap<TreePath, Object>) -> Result<MemTree, A
     };
     let mut builder = TreeBuilder::new(alloc, root.node)?;
     for (path, object) in left {
-        add(&mut builder, path, object)?;
+        builder.add_next(path, object)?;
     }
     Ok(builder.finish())
-}
-
-/// Adds the next object, whose path is in order and lies in a directory.
-fn add(builder: &mut TreeBuilder, path: TreePath, object: Object) -> Result<(), AllocError>
-    requires object { IsObject object }
-    requires after { is_lt (path_cmp builder.old.last path) ≡ true }
-    requires parent { IsKind Directory builder.old.files (parent_of path) }
-    ensures { OnOk result (builder.new ≡ record { files = fin.insert builder.old.files path object; last = path }) }
-{
-    match builder.add(path, object) {
-        Ok(()) => Ok(()),
-        Err(BuildFault::Memory) => Err(AllocError),
-        Err(BuildFault::OutOfOrder | BuildFault::NoParent) => unreachable!(),
-    }
 }

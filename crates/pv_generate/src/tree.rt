@@ -1,7 +1,7 @@
 //! A generated tree.
 ghost use Rattle.std.specs.Prelude.{◌≡◌, [], IfOk, OnOk};
 ghost use Rattle.std.specs.FinMap as fin;
-ghost use Rattle.pv_generate.specs.Trees.{data_path, directory, folder_path, folders, generated, with_groups, with_olds};
+ghost use Rattle.pv_generate.specs.Trees.{data_path, directory, etc_path, folder_path, folders, generated, with_groups, with_olds};
 
 use crate::lines::lines_of;
 use crate::objects::{numbered, object};
@@ -11,8 +11,17 @@ use pv_steps::Kind;
 use pv_tree::MemTree;
 use std::alloc::{AllocError, Global};
 
-/// The tree of a seed and a number of lines: eight directories, in them as many old files as lines, and the configuration
-/// of `systemd-tmpfiles` with these lines. No step is recorded in it.
+/// Makes the tree of a seed for `count` lines: directories, old files, and a configuration of `systemd-tmpfiles`
+/// for them.
+///
+/// The same seed and count always give the same tree. Everything in it belongs to root, all its timestamps are 0,
+/// and no step is recorded.
+///
+/// - `/data/g0` to `/data/g7` are directories.
+/// - `/data/gJ/eN` is a file for each N from 0 to `count` - 1, where J is N modulo 8. It has the bytes `old`.
+/// - `/etc/tmpfiles.d/gen.conf` has `count` pseudo-random lines (tmpfiles.d(5)) over these directories.
+///
+/// The only error is `AllocError`.
 pub fn generated_tree(alloc: Global, seed: u64, count: u32) -> Result<MemTree, AllocError>
     ensures files { IfOk result (λ tree. tree.files ≡ generated seed count) }
     ensures steps { IfOk result (λ tree. tree.steps ≡ []) }
@@ -27,15 +36,21 @@ pub fn generated_tree(alloc: Global, seed: u64, count: u32) -> Result<MemTree, A
     plan.grow(alloc)
 }
 
-/// `/etc/tmpfiles.d`.
+/// Returns `/etc`.
+fn etc_path(alloc: Global) -> Result<TreePath, AllocError>
+    ensures { IfOk result (λ path. path ≡ etc_path) }
+{
+    child(alloc, &TreePath::root(alloc), b"etc")
+}
+
+/// Returns `/etc/tmpfiles.d`.
 fn folder_path(alloc: Global) -> Result<TreePath, AllocError>
     ensures { IfOk result (λ path. path ≡ folder_path) }
 {
-    let etc = child(alloc, &TreePath::root(alloc), b"etc")?;
-    child(alloc, &etc, b"tmpfiles.d")
+    child(alloc, &etc_path(alloc)?, b"tmpfiles.d")
 }
 
-/// `/data`.
+/// Returns `/data`.
 fn data_path(alloc: Global) -> Result<TreePath, AllocError>
     ensures { IfOk result (λ path. path ≡ data_path) }
 {
@@ -47,7 +62,7 @@ fn folders_alone(alloc: Global) -> Result<Plan, AllocError>
     ensures { IfOk result (λ plan. plan ≡ folders) }
 {
     let root = TreePath::root(alloc);
-    let etc = child(alloc, &root, b"etc")?;
+    let etc = etc_path(alloc)?;
     let mut plan = Plan::new(alloc);
     add_directory(alloc, &mut plan, root)?;
     add_directory(alloc, &mut plan, etc)?;

@@ -8,12 +8,11 @@ use Rattle.base64.proofs.EngineFacts.{encode_of-append}
 use Rattle.base64.specs.GeneralPurpose.{IsBytes, encode_of}
 use Rattle.base64.specs.Engines.{standard}
 use Rattle.base64.specs.Rfc4648.{encode_symbols, padding_len}
-use Rattle.pv_path.specs.Printing.{printed}
 use Rattle.pv_steps.specs.declared.node.Kind.{Kind}
-use Rattle.pv_steps.specs.declared.node.Kind.TheVariants.{Directory, File, Link, Fifo, CharDevice, BlockDevice}
+use Rattle.pv_steps.specs.declared.node.Kind.TheVariants.{Directory, Fifo, CharDevice, BlockDevice}
 use Rattle.pv_steps.specs.Attributes.{are_bytes}
 use Rattle.pv_image.specs.Spelling.{IsPayload, content_text, numbers_text, payload_text}
-use Rattle.pv_image.specs.Reading.{AreNumbers, IsByteTarget, IsByteText, Reads, of_bytes, of_numbers}
+use Rattle.pv_image.specs.Reading.{AreNumbers, IsByteText, Reads, of_bytes, of_numbers}
 use Rattle.pv_text.proofs.Characters.{all_append}
 
 -- ---- bytes, by index and as a test
@@ -100,14 +99,6 @@ content_reads text some other None none = by_bytes
     by_bytes (b ∷ bytes) is e = none (b ∷ bytes) is e
 
 -- ---- payloads by kind
-
-pub file_reads : (text : List ℕ) (o : Option (List ℕ)) → Reads content_text IsByteText text o → Reads (payload_text File) (IsPayload File) text (option_map of_bytes o)
-file_reads text None none = λ x is e. none x.bytes is.are_bytes e
-file_reads text (Some bytes) (is, e) = (record { fits = tt; are_bytes = is; numbers = (refl, refl) }, e)
-
-pub link_reads : (text : List ℕ) (o : Option (List ℕ)) → Reads printed IsByteTarget text o → Reads (payload_text Link) (IsPayload Link) text (option_map of_bytes o)
-link_reads text None none = λ x is e. none x.bytes (record { target = is.fits; bytes = is.are_bytes }) e
-link_reads text (Some bytes) (is, e) = (record { fits = is.target; are_bytes = is.bytes; numbers = (refl, refl) }, e)
 
 char_reads : (text : List ℕ) (o : Option (ℕ × ℕ)) → Reads numbers_text AreNumbers text o → Reads (payload_text CharDevice) (IsPayload CharDevice) text (option_map of_numbers o)
 char_reads text None none = λ x is e. none (x.major, x.minor) is.numbers e

@@ -184,16 +184,16 @@ record NodeFront (text : List ℕ) : Type 0 where
   is : text ≡ letter ∷ 32 ∷ rest
   no_colon : letter ≡ 58 → ⊥
 
-front_of : (kind : Kind) (rest : List ℕ) → NodeFront (kind_text kind ++ 32 ∷ rest)
-front_of Directory rest = record { letter = 100; rest = rest; is = refl; no_colon = omega arith }
-front_of File rest = record { letter = 102; rest = rest; is = refl; no_colon = omega arith }
-front_of Link rest = record { letter = 108; rest = rest; is = refl; no_colon = omega arith }
-front_of Fifo rest = record { letter = 112; rest = rest; is = refl; no_colon = omega arith }
-front_of CharDevice rest = record { letter = 99; rest = rest; is = refl; no_colon = omega arith }
-front_of BlockDevice rest = record { letter = 98; rest = rest; is = refl; no_colon = omega arith }
+byte_and_rest : (kind : Kind) (rest : List ℕ) → NodeFront (kind_text kind ++ 32 ∷ rest)
+byte_and_rest Directory rest = record { letter = 100; rest = rest; is = refl; no_colon = omega arith }
+byte_and_rest File rest = record { letter = 102; rest = rest; is = refl; no_colon = omega arith }
+byte_and_rest Link rest = record { letter = 108; rest = rest; is = refl; no_colon = omega arith }
+byte_and_rest Fifo rest = record { letter = 112; rest = rest; is = refl; no_colon = omega arith }
+byte_and_rest CharDevice rest = record { letter = 99; rest = rest; is = refl; no_colon = omega arith }
+byte_and_rest BlockDevice rest = record { letter = 98; rest = rest; is = refl; no_colon = omega arith }
 
 node_front : (version : Version) (e : Path × Object) → NodeFront (node_text version e)
-node_front version e = front_of e.1.node.kind _
+node_front version e = byte_and_rest e.1.node.kind _
 
 second_byte : (a b : ℕ) (r s t : List ℕ) → t ≡ a ∷ b ∷ r → NodeFront t → b ≢ 32 → ⊥
 second_byte a b r s t e front other = let h : a ∷ b ∷ r ≡ front.letter ∷ 32 ∷ front.rest = sym e ∙ front.is in other (let k : b ≡ 32 = cc in k)

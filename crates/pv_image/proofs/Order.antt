@@ -1,7 +1,5 @@
 -- What comes after all entries of a list that is in order.
-use Rattle.std.proofs.Common.{◌≡◌, ◌≢◌, ℕ, ◌-◌, Bool, true, false, ◌&&◌, List, [], ◌∷◌, ◌++◌, length, Option, Some, None, option_map, refl, sym, ap, ◌∙◌, subst, arith, T, suc}
-use Rattle.std.specs.Prelude.{slice_get}
-use Rattle.std.specs.Option.{option_map_or}
+use Rattle.std.proofs.Common.{◌≡◌, ◌≢◌, ℕ, ◌-◌, Bool, true, false, ◌&&◌, List, [], ◌∷◌, ◌++◌, Option, Some, None, option_map, refl, sym, ap, ◌∙◌, subst, T}
 use Rattle.std.specs.List.{list_all, list_any}
 use Rattle.std.specs.Ordering.{is_lt, ordering_reverse}
 use Rattle.std.specs.Cmp.{IsTotalOrder}
@@ -60,14 +58,6 @@ module _ {K X : Type 0} (R : K → K → Ordering) where
       let greater : R k x.0 ≡ Greater = turned o x.0 k parts.0 in
       rw greater (find_last o es k parts.1)
 
-  pub follows_last : (es : List (K × X)) (k : K) → follows R es k ≡ option_map_or (λ e. is_lt (R e.0 k)) (slice_get es (length es - 1)) true
-  follows_last [] k = refl
-  follows_last (x ∷ []) k = refl
-  follows_last (x ∷ y ∷ es) k =
-      let one : suc (suc (length es)) - 1 ≡ suc (length es) = omega arith in
-      let two : suc (length es) - 1 ≡ length es = omega arith in
-      rw one (rw two at (follows_last (y ∷ es) k))
-
 -- ---- directories
 
 unfoldable pub dir_at : Option Object → Bool
@@ -117,10 +107,6 @@ parent_is files path =
 pub has_parent-some : (files : Files) (path : Path) (node : Node) → Some node ≡ node_at files (parent_of path) → has_parent (fin.entries files) path ≡ is_directory node.kind
 unfolding at_node
 has_parent-some files path node e = parent_is files path ∙ ap at_node (sym e)
-
-pub has_parent-none : (files : Files) (path : Path) → None ≡ node_at files (parent_of path) → has_parent (fin.entries files) path ≡ false
-unfolding at_node
-has_parent-none files path e = parent_is files path ∙ ap at_node (sym e)
 
 -- what has a parent may be added below it
 pub has_parent-kind : (files : Files) (path : Path) → has_parent (fin.entries files) path ≡ true → IsKind Directory files (parent_of path)

@@ -8,7 +8,7 @@ use Rattle.std.proofs.lemmas.Bool.{and_parts, and_from}
 use Rattle.pv_path.specs.Printing.{hex_digit, is_plain, is_plain_but, printed, printed_by, printed_byte_by}
 use Rattle.pv_path.proofs.Printed.{hidden_none, plain_front}
 use Rattle.pv_steps.specs.Attributes.{are_bytes}
-use Rattle.pv_image.specs.Reading.{IsFront}
+use Rattle.pv_image.specs.Reading.{BeginsWithByte}
 use Rattle.pv_text.proofs.Characters.{all_append, all_back, all_front}
 
 pub hex_digit-injective : (d e : ℕ) → hex_digit d ≡ hex_digit e → d ≡ e
@@ -81,7 +81,7 @@ module _ (plain : ℕ → Bool) (slash : plain 92 ≡ false) where
       nothing (x ∷ m) e = absurd (some_printed x (printed_by plain m) (sym e))
 
   -- where no printed byte goes on, the text prints nothing
-  pub none_printed : (text done rest : List ℕ) → text ≡ printed_by plain done ++ rest → rest ≢ [] → ((x : ℕ × List ℕ) → IsFront x → rest ≢ printed_byte_by plain x.0 ++ x.1) → (bytes : List ℕ) → are_bytes bytes ≡ true → text ≢ printed_by plain bytes
+  pub none_printed : (text done rest : List ℕ) → text ≡ printed_by plain done ++ rest → rest ≢ [] → ((x : ℕ × List ℕ) → BeginsWithByte x → rest ≢ printed_byte_by plain x.0 ++ x.1) → (bytes : List ℕ) → are_bytes bytes ≡ true → text ≢ printed_by plain bytes
   none_printed text done rest so_far some none bytes fit e =
       let more = printed_rest done bytes rest (sym so_far ∙ e) in
       by_more more.0 (bytes_back done more.0 (rw more.1 at fit)) more.2

@@ -55,15 +55,6 @@ fails_later n stage bytes m now rest (fault.NoParent k) lead h = lead (fault.NoP
 fails_later n stage bytes m now rest (fault.Truncated k) lead h = lead (fault.Truncated k) h
 fails_later n stage bytes m now rest fault.Memory lead h = tt
 
-pub fails_has : (n : ℕ) (stage : Stage) (bytes : List ℕ) (f : ImageFault) → HasFault n stage bytes f → Fails n stage bytes f
-fails_has n stage bytes fault.TooLong h = h
-fails_has n stage bytes (fault.BadHeader k) h = h
-fails_has n stage bytes (fault.BadLine k) h = h
-fails_has n stage bytes (fault.OutOfOrder k) h = h
-fails_has n stage bytes (fault.NoParent k) h = h
-fails_has n stage bytes (fault.Truncated k) h = h
-fails_has n stage bytes fault.Memory h = tt
-
 pub has_fails : (n : ℕ) (stage : Stage) (bytes : List ℕ) (f : ImageFault) → Fails n stage bytes f → f ≢ fault.Memory → HasFault n stage bytes f
 has_fails n stage bytes fault.TooLong h other = h
 has_fails n stage bytes (fault.BadHeader k) h other = h
@@ -158,9 +149,6 @@ truncated n [] e some = absurd (some refl)
 truncated n (b ∷ bytes) e some = cut_off e refl
 
 -- ---- what was read
-
-pub notes_none : (bytes : List ℕ) → NotesRead bytes bytes
-notes_none bytes = record { notes = []; are_notes = refl; text = refl }
 
 pub notes_more : (bytes rest text after : List ℕ) → NotesRead bytes rest → IsCut rest text after → is_note text ≡ true → NotesRead bytes after
 notes_more bytes rest text after read cut note = record {

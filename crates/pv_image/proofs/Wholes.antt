@@ -1,6 +1,6 @@
 -- The text of a whole image, line by line.
 use Rattle.std.specs.Prelude.{◌≡◌, ℕ, ◌+◌, ◌<◌, Bool, true, false, cond, ◌||◌, ◌&&◌, ◌==◌, List, [], ◌∷◌, ◌++◌, length, take, drop, map, Option, Some, None, IfSome, option_map, slice_get, T}
-use Rattle.std.proofs.Common.{refl, sym, ap, subst, ◌∙◌, get_or, arith, append_assoc}
+use Rattle.std.proofs.Common.{refl, sym, ap, subst, ◌∙◌, get_or, append_assoc}
 use Rattle.std.specs.List.{flat_map, filter_map, cons_option, list_any, list_all}
 use Rattle.std.specs.Option.{option_map_or}
 use Rattle.std.specs.Ordering.{nat_cmp, is_lt, eq_by_cmp}
@@ -174,9 +174,6 @@ module _ (o : List ℕ) (es all : List (Path × Object)) (e : Path × Object) (n
 
   pub walk_line : (done : List ℕ) → done ++ flat_map node_line es ≡ o ++ flat_map node_line all → (done ++ node_line e) ++ flat_map node_line (drop 1 es) ≡ o ++ flat_map node_line all
   walk_line done is = append_assoc done (node_line e) (flat_map node_line (drop 1 es)) ∙ sym (ap (λ (v : List (Path × Object)). done ++ flat_map node_line v) walk_parts) ∙ is
-
-  pub walk_shorter : length (drop 1 es) < length es
-  walk_shorter = let l = ap length walk_parts in omega (arith, l)
 
 pub walk_over : (es : List (Path × Object)) → None ≡ slice_get es 0 → es ≡ []
 walk_over [] is = refl

@@ -1,5 +1,5 @@
--- Which bytes are an image of facts and a tree, and where they are none, the first fault by line. The form of an image
--- and its faults are this project's own.
+-- Which bytes are an image of facts and a tree, and the first fault of bytes that are not an image. The form of an
+-- image and its faults are this project's own.
 use Rattle.std.specs.Prelude.{◌≡◌, ℕ, suc, Bool, true, false, ◌&&◌, List, [], ◌∷◌, ◌++◌, codes, nat_eq, Option, Some, None, Result, Ok, Err, if◌then◌else◌}
 use Rattle.std.specs.List.{flat_map, list_any, list_all, starts_with}
 use Rattle.std.specs.Ordering.{nat_cmp, is_lt}
@@ -20,24 +20,27 @@ use Rattle.pv_image.specs.declared.version.Version.TheVariants.{One, Two}
 
 -- ---- images
 
--- a note, which reading skips: a line that begins with a colon and a space
+-- Whether a line is a note, which reading skips: it begins with a colon and a space. Messages are written as notes.
 abbrev pub is_note : List ℕ → Bool
 is_note text = starts_with nat_eq text (codes ": ")
 
--- a fact of bytes
+-- Whether a letter and a value are a fact, and the value consists of bytes.
 abbrev pub is_byte_fact : ℕ × List ℕ → Bool
 is_byte_fact fact = is_fact fact.0 fact.1 && are_bytes fact.1
 
+-- The same as a statement.
 abbrev pub IsByteFact : ℕ × List ℕ → Type 0
 IsByteFact fact = is_byte_fact fact ≡ true
 
--- facts and a tree that have a text of a version: values are bytes, and the version shows each object
+-- Facts and a tree have a text in a version: the facts can be written, the tree is a tree, and the version can show
+-- each object.
 pub record HaveText (version : Version) (facts : Values) (files : Files) : Type 0 where
   pub facts_fit : list_all is_byte_fact (fin.entries facts) ≡ true
   pub tree : IsTree files
   pub shown : (path : Path) (o : Object) → places files path ≡ Some o → Shows version (extras_of o)
 
--- bytes are some notes, and then the one text of a version of these facts and this tree
+-- Bytes are an image of these facts and this tree: some notes, and then the one text of the facts and the tree in
+-- some version.
 pub record IsImage (bytes : List ℕ) (facts : Values) (files : Files) : Type 0 where
   pub version : Version
   pub notes : List (List ℕ)
@@ -47,7 +50,7 @@ pub record IsImage (bytes : List ℕ) (facts : Values) (files : Files) : Type 0 
 
 -- ---- faults
 
--- what a line may say
+-- What a line may say.
 pub data What : Type 0 where
   Note : What
   Header : Version → What
@@ -55,7 +58,7 @@ pub data What : Type 0 where
   Node : Version → Path × Object → What
   End : What
 
--- a text is a spelling of it
+-- A text is the spelling of what a line says. A note is any text that is a note. Everything else has one spelling.
 abbrev pub Spells : List ℕ → What → Type 0
 Spells text Note = is_note text ≡ true
 Spells text (Header version) = text ≡ header_text version
@@ -63,45 +66,48 @@ Spells text (Fact fact) = IsByteFact fact × (text ≡ fact_text fact)
 Spells text (Node version e) = IsEntry version e × (text ≡ node_text version e)
 Spells text End = text ≡ end_text
 
--- where a line stands: before the header, in a version after some facts or after some nodes, after the end
+-- Where the reading of an image is: before the header, after some facts, after some nodes, or after the end line.
 pub data Stage : Type 0 where
   Before : Stage
   InFacts : Version → List (ℕ × List ℕ) → Stage
   InNodes : Version → List (Path × Object) → Stage
   After : Stage
 
--- a letter, or a path, is greater than the last one before it
+-- Whether a key comes after the last key of a list. In an empty list it does.
 abbrev pub follows : {K X : Type 0} → (K → K → Ordering) → List (K × X) → K → Bool
 follows order [] key = true
 follows order (e ∷ []) key = is_lt (order e.0 key)
 follows order (e ∷ next ∷ es) key = follows order (next ∷ es) key
 
--- the directory of a path was read before
+-- Whether these nodes have a directory at the path above this one.
 abbrev pub has_parent : List (Path × Object) → Path → Bool
 has_parent entries path = list_any (λ e. same_path e.0 (parent_of path) && is_directory e.1.node.kind) entries
 
--- the first node of an image is the root, a directory
+-- Whether a node is the root, and a directory. The first node of an image must be.
 abbrev pub is_root : Path × Object → Bool
 is_root e = same_path e.0 [] && is_directory e.1.node.kind
 
--- whether two versions are the same
+-- Whether two versions are the same.
 abbrev pub same_version : Version → Version → Bool
 same_version One One = true
 same_version Two Two = true
 same_version a b = false
 
--- the stage after the first node, or its fault
+-- The stage after the first node, or its fault.
 abbrev pub after_root : ℕ → Version → Path × Object → Result Stage ImageFault
 after_root n version e = if is_root e then Ok (InNodes version (e ∷ [])) else Err (fault.NoParent n)
 
--- the stage after a later node, or its fault
+-- The stage after a later node, or its fault: it does not come after the last one, or the path above it is not a
+-- directory among the nodes before it. The first of these counts.
 abbrev pub after_node : ℕ → Version → List (Path × Object) → Path × Object → Result Stage ImageFault
 after_node n version entries e =
     if follows path_cmp entries e.0 then
     if has_parent entries e.0 then Ok (InNodes version (entries ++ e ∷ [])) else Err (fault.NoParent n)
     else Err (fault.OutOfOrder n)
 
--- what line n does where it stands: the stage after it, or its fault; nothing if it may not stand there
+-- The stage after line n, or its fault. Given are the stage before it and what it says. If this is not allowed at
+-- this stage, there is neither. A fact or a node must come after the one before it, and the end must not come before
+-- any node.
 abbrev pub judged : ℕ → Stage → What → Option (Result Stage ImageFault)
 judged n Before Note = Some (Ok Before)
 judged n Before (Header version) = Some (Ok (InFacts version []))
@@ -112,33 +118,33 @@ judged n (InNodes version entries) (Node other e) = if same_version version othe
 judged n (InNodes version entries) End = Some (Ok After)
 judged n stage what = None
 
--- the fault of line n where it is no spelling of what may stand there
+-- The fault of line n if it does not spell anything that is allowed at this stage.
 abbrev pub bad : ℕ → Stage → ImageFault
 bad n Before = fault.BadHeader n
 bad n stage = fault.BadLine n
 
--- whether an image may end here
+-- Whether the bytes may end here: after the end line, with nothing left.
 abbrev pub may_end : Stage → List ℕ → Bool
 may_end After [] = true
 may_end stage bytes = false
 
--- bytes begin with a line, and this is what follows
+-- The bytes begin with the line `text` and its line feed, and then comes `rest`.
 pub record IsCut (bytes text rest : List ℕ) : Type 0 where
   pub bytes_are : bytes ≡ line text ++ rest
   pub whole : is_line text ≡ true
 
--- from line n on, which stands where the stage says, the first fault of the bytes is this
+-- The bytes from line n on have this as their first fault. The stage is that before line n.
 pub data HasFault : ℕ → Stage → List ℕ → ImageFault → Type 0 where
-  -- line n has no line feed, or does not begin
+  -- Line n has no line feed, or there is no line n although the image is not at its end.
   cut_off : {n : ℕ} {stage : Stage} {bytes : List ℕ} → is_line bytes ≡ true → may_end stage bytes ≡ false → HasFault n stage bytes (fault.Truncated n)
-  -- line n is no spelling of what may stand there
+  -- Line n does not spell anything that is allowed at this stage.
   misspelt : {n : ℕ} {stage : Stage} {bytes text rest : List ℕ} → IsCut bytes text rest → ((what : What) → Spells text what → judged n stage what ≡ None) → HasFault n stage bytes (bad n stage)
-  -- line n says what may not stand after the lines before it
+  -- Line n spells something allowed, but it has a fault after the lines before it.
   misplaced : {n : ℕ} {stage : Stage} {bytes text rest : List ℕ} {f : ImageFault} (what : What) → IsCut bytes text rest → Spells text what → judged n stage what ≡ Some (Err f) → HasFault n stage bytes f
-  -- a later line has the fault
+  -- Line n is right, and a later line has the fault.
   later : {n : ℕ} {stage next : Stage} {bytes text rest : List ℕ} {f : ImageFault} (what : What) → IsCut bytes text rest → Spells text what → judged n stage what ≡ Some (Ok next)
       → HasFault (suc n) next rest f → HasFault n stage bytes f
 
--- the first fault of bytes that are no image
+-- This is the first fault of bytes that are not an image. Lines are counted from 1.
 abbrev pub HasImageFault : List ℕ → ImageFault → Type 0
 HasImageFault bytes f = HasFault 1 Before bytes f

@@ -11,14 +11,14 @@ use pv_path::{Bytes, pieces_of};
 use pv_steps::{Attr, AttrList, is_attr};
 use std::alloc::{AllocError, Global};
 
-/// The name or the value of an attribute that a text prints.
+/// Reads the name or the value of an attribute.
 fn read_part(alloc: Global, text: &[u8]) -> Result<Option<Bytes>, AllocError>
     ensures { IfOk result (Reads (printed_by is_plain_in_attr) IsByteText text.now) }
 {
     read_printed_but(alloc, text, b",=")
 }
 
-/// The attribute whose name and value two texts print.
+/// Reads the attribute whose name and value two texts print.
 fn attr_with(alloc: Global, name: &[u8], value: &[u8]) -> Result<Option<Attr>, AllocError>
     ensures { let texts = name.now ∷ value.now ∷ [] in
         IfOk result (Reads attr_texts IsAttr texts) }
@@ -35,7 +35,7 @@ fn attr_with(alloc: Global, name: &[u8], value: &[u8]) -> Result<Option<Attr>, A
     Ok(Some(Attr { name, value }))
 }
 
-/// The attribute that texts spell.
+/// Reads the attribute that the pieces of a text spell.
 fn attr_of(alloc: Global, pieces: &[&[u8]]) -> Result<Option<Attr>, AllocError>
     ensures { IfOk result (Reads attr_texts IsAttr (texts pieces.now)) }
 {
@@ -45,7 +45,7 @@ fn attr_of(alloc: Global, pieces: &[&[u8]]) -> Result<Option<Attr>, AllocError>
     }
 }
 
-/// The attribute that a text spells.
+/// Reads the attribute that a text spells.
 fn read_attr(alloc: Global, text: &[u8]) -> Result<Option<Attr>, AllocError>
     ensures { IfOk result (Reads attr_text IsAttr text.now) }
 {
@@ -53,14 +53,14 @@ fn read_attr(alloc: Global, text: &[u8]) -> Result<Option<Attr>, AllocError>
     attr_of(alloc, pieces.as_slice())
 }
 
-/// Whether the name of an attribute comes before that of another.
+/// Returns whether the name of an attribute comes before that of another.
 fn is_before(x: &Attr, y: &Attr) -> bool
     ensures { result ≡ comes_before x.now y.now }
 {
     x.name.as_slice().cmp(y.name.as_slice()).is_lt()
 }
 
-/// Whether the name of an attribute comes after those of a list.
+/// Returns whether the name of an attribute comes after all names of a list.
 fn comes_last(attrs: &AttrList, attr: &Attr) -> bool
     ensures { result ≡ all_before attrs.now attr.now }
 {
@@ -70,7 +70,7 @@ fn comes_last(attrs: &AttrList, attr: &Attr) -> bool
     }
 }
 
-/// The attributes that texts spell, one each.
+/// Reads the attributes that texts spell, one each.
 fn attrs_of(alloc: Global, pieces: &[&[u8]]) -> Result<Option<AttrList>, AllocError>
     ensures { IfOk result (Reads (map attr_text) AreAttrs (texts pieces.now)) }
 {
@@ -87,7 +87,7 @@ fn attrs_of(alloc: Global, pieces: &[&[u8]]) -> Result<Option<AttrList>, AllocEr
     Ok(Some(attrs))
 }
 
-/// The attributes that a text spells.
+/// Reads the attributes that a text spells.
 pub(crate) fn read_attrs(alloc: Global, text: &[u8]) -> Result<Option<AttrList>, AllocError>
     ensures { IfOk result (Reads attrs_text AreAttrs text.now) }
 {

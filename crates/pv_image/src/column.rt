@@ -1,4 +1,4 @@
-//! The columns of a node that are spelled by letters and digits.
+//! The columns of a node that are read without an allocation: kind, mode, owner, owning group and timestamps.
 ghost use Rattle.std.specs.Prelude.{◌≡◌, ◌+◌, ◌≤◌, ◌<◌, ◌^◌, [], ◌∷◌};
 ghost use Rattle.std.specs.Fmt.{decimal};
 ghost use Rattle.pv_steps.specs.Objects.{StampsFit, IsId};
@@ -9,7 +9,7 @@ use crate::cut::cut_into;
 use pv_acl::number;
 use pv_steps::{Kind, Stamps};
 
-/// The kind that a text spells.
+/// Reads the kind that a text spells.
 pub(crate) fn read_kind(text: &[u8]) -> Option<Kind>
     ensures { Reads kind_text (λ _. Unit {0}) text.now result }
 {
@@ -24,7 +24,7 @@ pub(crate) fn read_kind(text: &[u8]) -> Option<Kind>
     }
 }
 
-/// The number that an octal digit spells.
+/// Returns the number that an octal digit spells.
 fn read_octal(byte: u8) -> Option<u16>
     ensures { Reads (λ digit. 48 + digit) (λ digit. digit < 8) byte result }
 {
@@ -34,7 +34,7 @@ fn read_octal(byte: u8) -> Option<u16>
     }
 }
 
-/// The mode that four octal digits spell.
+/// Returns the mode that four octal digits spell.
 fn mode_of(first: u8, second: u8, third: u8, last: u8) -> Option<u16>
     ensures { Reads mode_text (λ mode. mode ≤ 4095) (first ∷ second ∷ third ∷ last ∷ []) result }
 {
@@ -43,7 +43,7 @@ fn mode_of(first: u8, second: u8, third: u8, last: u8) -> Option<u16>
     Some(high * 64 + low)
 }
 
-/// The mode that a text spells in four octal digits.
+/// Reads the mode that a text spells in four octal digits.
 pub(crate) fn read_mode(text: &[u8]) -> Option<u16>
     ensures { Reads mode_text (λ mode. mode ≤ 4095) text.now result }
 {
@@ -53,7 +53,7 @@ pub(crate) fn read_mode(text: &[u8]) -> Option<u16>
     }
 }
 
-/// The number that a decimal digit spells.
+/// Returns the number that a decimal digit spells.
 fn digit_of(byte: u8) -> Option<u64>
     ensures { Reads (λ digit. (48 + digit) ∷ []) (λ digit. digit < 10) (byte ∷ []) result }
 {
@@ -63,7 +63,7 @@ fn digit_of(byte: u8) -> Option<u64>
     }
 }
 
-/// The number that a text of one decimal digit spells.
+/// Reads the number that a text of one decimal digit spells.
 fn read_digit(text: &[u8]) -> Option<u64>
     ensures { Reads (λ digit. (48 + digit) ∷ []) (λ digit. digit < 10) text.now result }
 {
@@ -73,7 +73,8 @@ fn read_digit(text: &[u8]) -> Option<u64>
     }
 }
 
-/// The number below 2^64 that a text spells in decimal. One of one digit, as most of a folder's manifest, is read at once.
+/// Reads the number below 2^64 that a text spells in decimal. A text of one digit, as most in the manifest of a
+/// folder, is read at once.
 pub(crate) fn read_number(text: &[u8]) -> Option<u64>
     ensures { Reads decimal (λ n. n < 2 ^ 64) text.now result }
 {
@@ -83,7 +84,7 @@ pub(crate) fn read_number(text: &[u8]) -> Option<u64>
     }
 }
 
-/// The number of 32 bits that a text spells in decimal, where it is no greater than the most.
+/// Reads the number that a text spells in decimal, if it is at most `most`.
 pub(crate) fn read_up_to(most: u32, text: &[u8]) -> Option<u32>
     ensures { Reads decimal (λ n. n ≤ most) text.now result }
 {
@@ -93,14 +94,14 @@ pub(crate) fn read_up_to(most: u32, text: &[u8]) -> Option<u32>
     }
 }
 
-/// The ID of a user or a group that a text spells.
+/// Reads the ID of a user or a group that a text spells.
 pub(crate) fn read_id(text: &[u8]) -> Option<u32>
     ensures { Reads decimal IsId text.now result }
 {
     read_up_to(4294967294, text)
 }
 
-/// The timestamps that four texts spell.
+/// Reads the timestamps that four texts spell.
 fn stamps_with(access: &[u8], birth: &[u8], change: &[u8], modify: &[u8]) -> Option<Stamps>
     ensures { let texts = access.now ∷ birth.now ∷ change.now ∷ modify.now ∷ [] in
         Reads stamp_texts StampsFit texts result }
@@ -113,7 +114,7 @@ fn stamps_with(access: &[u8], birth: &[u8], change: &[u8], modify: &[u8]) -> Opt
     })
 }
 
-/// The timestamps that texts spell, one each.
+/// Reads the timestamps that texts spell, one each.
 fn stamps_of(pieces: &[&[u8]]) -> Option<Stamps>
     ensures { Reads stamp_texts StampsFit (texts pieces.now) result }
 {
@@ -123,7 +124,7 @@ fn stamps_of(pieces: &[&[u8]]) -> Option<Stamps>
     }
 }
 
-/// The timestamps that a text spells.
+/// Reads the four timestamps that a text spells.
 pub(crate) fn read_stamps(text: &[u8]) -> Option<Stamps>
     ensures { Reads stamps_text StampsFit text.now result }
 {

@@ -1,4 +1,4 @@
-//! Texts cut at a byte, which takes no memory.
+//! Cuts texts at a byte. This does not allocate.
 ghost use Rattle.std.specs.Prelude.{◌≡◌, ◌≤◌, ◌<◌, ◌==◌, true, take, length, IfNone, IfSome};
 ghost use Rattle.std.specs.List.{slice_split};
 ghost use Rattle.pv_text.specs.Lines.{lacks};
@@ -6,7 +6,8 @@ ghost use Rattle.pv_image.specs.Reading.{IsCutAt, texts};
 
 use memchr::memchr;
 
-/// What stands before the first such byte, and what follows it.
+/// Cuts a text at the first such byte: gives what is before it and what is after it, or `None` if the text does not
+/// have this byte.
 pub(crate) fn cut_at(text: &[u8], byte: u8) -> Option<(&[u8], &[u8])>
     ensures some { IfSome result (λ cut. IsCutAt byte text.now cut.0.now cut.1.now) }
     ensures none { IfNone result (lacks byte text.now ≡ true) }
@@ -15,8 +16,9 @@ pub(crate) fn cut_at(text: &[u8], byte: u8) -> Option<(&[u8], &[u8])>
     Some((&text[..at], &text[at + 1..]))
 }
 
-/// Puts what stands between the places of a byte into the first pieces, and gives how many they are, if there is
-/// room for all.
+/// Splits a text at a byte, puts the pieces into the first items of `pieces`, and gives their number.
+///
+/// The answer is `None` if there are more pieces than `pieces` has items.
 pub(crate) fn cut_into<'a>(text: &'a [u8], byte: u8, pieces: &mut [&'a [u8]]) -> Option<usize>
     ensures within { IfSome result (λ count. count ≤ length pieces.new) }
     ensures some { IfSome result (λ count. texts (take count pieces.new) ≡ slice_split (λ b. b == byte) text.now) }

@@ -1,10 +1,10 @@
-//! How much of the files an image tells.
+//! How much of the files is written.
 
-/// Whether an image has the bytes of files.
+/// Whether an image is written with the bytes of the files.
 #[derive(Clone, Copy)]
 pub(crate) enum Extent {
-    /// Each file with its bytes.
+    /// Each file is written with its bytes.
     Whole,
-    /// Each file as an empty one.
+    /// Each file is written as an empty one.
     EmptyFiles,
 }

@@ -1,4 +1,5 @@
-//! The columns that version 2 has and version 1 has not, by kind.
+//! The columns that only version 2 has: extended attributes and file attribute flags. What they may be depends on
+//! the kind.
 ghost use Rattle.std.specs.Prelude.{◌≡◌, [], ◌∷◌, IfOk};
 ghost use Rattle.pv_steps.specs.declared.node.Kind.{Kind as KindValue};
 ghost use Rattle.pv_steps.specs.Objects.{AttrsFit, LettersFit};
@@ -12,16 +13,16 @@ use crate::version::Version;
 use pv_steps::{AttrList, Kind, LetterSet};
 use std::alloc::{AllocError, Global};
 
-/// The extended attributes and the letters of an object.
+/// The extended attributes and the file attribute flags of an object.
 #[derive(Drop)]
 pub struct Extras {
     /// The extended attributes (xattr(7)).
     pub attrs: AttrList,
-    /// The letters (chattr(1)).
+    /// The file attribute flags (chattr(1)).
     pub letters: LetterSet,
 }
 
-/// No attributes, which a dash spells.
+/// Reads the empty list of attributes, which is spelled as a dash.
 fn no_attrs(alloc: Global, text: &[u8]) -> Option<AttrList>
     ensures { Reads attrs_text (λ attrs. attrs ≡ []) text.now result }
 {
@@ -32,7 +33,7 @@ fn no_attrs(alloc: Global, text: &[u8]) -> Option<AttrList>
     }
 }
 
-/// The attributes of an object of a kind that a text spells.
+/// Reads the attributes that a text spells for an object of a kind.
 fn read_attrs_of(alloc: Global, kind: Kind, text: &[u8]) -> Result<Option<AttrList>, AllocError>
     ensures { IfOk result (Reads attrs_text (AttrsFit kind) text.now) }
 {
@@ -42,7 +43,7 @@ fn read_attrs_of(alloc: Global, kind: Kind, text: &[u8]) -> Result<Option<AttrLi
     }
 }
 
-/// No letters, which a dash spells.
+/// Reads the empty set of flags, which is spelled as a dash.
 fn no_letters(text: &[u8]) -> Option<LetterSet>
     ensures { Reads letters_text (λ letters. letters ≡ 0) text.now result }
 {
@@ -53,7 +54,7 @@ fn no_letters(text: &[u8]) -> Option<LetterSet>
     }
 }
 
-/// The letters of an object of a kind that a text spells.
+/// Reads the flags that a text spells for an object of a kind.
 fn read_letters_of(alloc: Global, kind: Kind, text: &[u8]) -> Result<Option<LetterSet>, AllocError>
     ensures { IfOk result (Reads letters_text (LettersFit kind) text.now) }
 {
@@ -63,7 +64,7 @@ fn read_letters_of(alloc: Global, kind: Kind, text: &[u8]) -> Result<Option<Lett
     }
 }
 
-/// The attributes and the letters of an object of a kind that two texts spell.
+/// Reads the attributes and the flags that two texts spell for an object of a kind.
 fn extras_with(
     alloc: Global,
     kind: Kind,
@@ -82,7 +83,7 @@ fn extras_with(
     Ok(Some(Extras { attrs, letters }))
 }
 
-/// The attributes and the letters of an object of a kind that texts spell.
+/// Reads the attributes and the flags that the columns of version 2 spell for an object of a kind.
 fn extras_of(alloc: Global, kind: Kind, pieces: &[&[u8]]) -> Result<Option<Extras>, AllocError>
     ensures { IfOk result (Reads (extra_texts Version.Two) (IsExtras Version.Two kind) (texts pieces.now)) }
 {
@@ -92,7 +93,7 @@ fn extras_of(alloc: Global, kind: Kind, pieces: &[&[u8]]) -> Result<Option<Extra
     }
 }
 
-/// No attributes and no letters, which no text spells.
+/// Returns no attributes and no flags, as version 1 has no columns for them.
 fn no_extras(alloc: Global, pieces: &[&[u8]]) -> Option<Extras>
     ensures { (kind : KindValue) → Reads (extra_texts Version.One) (IsExtras Version.One kind) (texts pieces.now) result }
 {
@@ -105,7 +106,7 @@ fn no_extras(alloc: Global, pieces: &[&[u8]]) -> Option<Extras>
     }
 }
 
-/// What the columns that a version has beside those of version 1 say of an object of a kind.
+/// Reads the attributes and the flags of an object of a kind from the columns that a version has for them.
 pub(crate) fn read_extras(
     alloc: Global,
     version: Version,

@@ -1,30 +1,35 @@
-//! Why bytes are no image.
+//! Why bytes are not an image.
 ghost use Rattle.std.specs.Prelude.{◌≡◌};
 ghost use Rattle.pv_image.specs.declared.image_fault.ImageFault.TheVariants.{Memory};
 
 use std::alloc::{AllocError, AllocFailed};
 use thiserror::Error;
 
-/// Why bytes are no image, with the number of the line, counted from 1.
+/// Why bytes are not an image.
+///
+/// The number in a variant is that of the first line with a defect, counted from 1. Lines that are notes (they begin
+/// with `: `) count too.
 #[derive(Clone, Copy, Debug, PartialEq, Eq, Error)]
 pub enum ImageFault {
-    /// More bytes were given than an input may have.
+    /// The input has more bytes than are allowed. `read_image` never returns this error. It is for callers that check
+    /// the length of their input themselves.
     #[error("TooLong")]
     TooLong,
-    /// The first line that is no note is not the header.
+    /// The first line that is not a note is not the header of a version. A note begins with a colon and a space.
     #[error("BadHeader")]
     BadHeader(u64),
-    /// The line is no spelling of what may stand there.
+    /// The line is not the spelling of anything that may come after the lines before it. Each thing has exactly one
+    /// spelling.
     #[error("BadLine")]
     BadLine(u64),
-    /// A fact's letter or a node's path is not greater than the one before it.
+    /// The letter of a fact, or the path of a node, is not greater than the one before it.
     #[error("OutOfOrder")]
     OutOfOrder(u64),
-    /// The first node is not the root as a directory, a path's parent is not a directory read before, or the input ends
-    /// before any node.
+    /// The first node is not the root directory, the parent of a path is not a directory that was read before, or
+    /// the image ends before any node.
     #[error("NoParent")]
     NoParent(u64),
-    /// The line has no line feed, or the input ends where it should begin.
+    /// The line has no line feed, or the input ends where this line should begin.
     #[error("Truncated")]
     Truncated(u64),
     /// Memory ran out.

@@ -1,4 +1,4 @@
-//! The column of letters (chattr(1)).
+//! The column of file attribute flags (chattr(1)).
 ghost use Rattle.std.specs.Prelude.{◌≡◌, ◌↔◌, ℕ, ◌<◌, ◌^◌, bit_or, IsTrue, IfOk, if◌then◌else◌};
 ghost use Rattle.std.specs.Option.{option_map_or};
 ghost use Rattle.pv_steps.specs.Letters.{letter_bit, letters_of};
@@ -9,7 +9,7 @@ use crate::payload::is_dash;
 use pv_steps::LetterSet;
 use std::alloc::{AllocError, Global};
 
-/// A set with one letter more, where that is wanted.
+/// Returns a set with the flag of one more letter, if that is wanted.
 fn with_letter(set: LetterSet, letter: u8, wanted: bool) -> LetterSet
     ensures { result ≡ option_map_or (λ bit. if wanted then bit_or set bit else set) (letter_bit letter) set }
 {
@@ -19,7 +19,7 @@ fn with_letter(set: LetterSet, letter: u8, wanted: bool) -> LetterSet
     }
 }
 
-/// The letters that stand in a text.
+/// Returns the set of the flags whose letters are in a text.
 fn letters_in(text: &[u8]) -> LetterSet
     ensures { (s : ℕ) → s < 2 ^ 15 → letters_of s ≡ text.now → result ≡ s }
 {
@@ -30,7 +30,7 @@ fn letters_in(text: &[u8]) -> LetterSet
     set
 }
 
-/// Whether a text is the letters of a set.
+/// Returns whether a text has exactly the letters of a set, in byte order.
 fn are_letters(alloc: Global, set: LetterSet, text: &[u8]) -> Result<bool, AllocError>
     ensures { IfOk result (λ same. IsTrue same ↔ (letters_of set ≡ text.now)) }
 {
@@ -38,7 +38,7 @@ fn are_letters(alloc: Global, set: LetterSet, text: &[u8]) -> Result<bool, Alloc
     Ok(letters.as_slice() == text)
 }
 
-/// The set of letters that a text spells.
+/// Reads the set of flags that a text spells, or gives `None` if it does not spell one.
 pub(crate) fn read_letters(alloc: Global, text: &[u8]) -> Result<Option<LetterSet>, AllocError>
     ensures { IfOk result (Reads letters_text IsLetters text.now) }
 {

@@ -1,4 +1,6 @@
-//! The tree image: one text that holds facts about a system and a whole file tree.
+//! Reads and writes the tree image: one text that holds a complete file tree, and facts about its system.
+//!
+//! docs/FORMAT.md describes the format. Each tree with its facts has exactly one text in each version.
 #![tactic(auto)]
 
 mod attrs;

@@ -14,7 +14,7 @@ use pv_path::{Bytes, pieces_of};
 use pv_text::FACT_LETTERS;
 use std::alloc::{AllocError, Global};
 
-/// The first line of bytes without its line feed, and what follows it.
+/// Returns the first line of bytes without its line feed, and what is after it, or `None` if there is no line feed.
 pub(crate) fn first_line(bytes: &[u8]) -> Option<(&[u8], &[u8])>
     ensures some { IfSome result (λ cut. IsCut bytes.now cut.0.now cut.1.now) }
     ensures none { IfNone result (is_line bytes.now ≡ true) }
@@ -22,14 +22,14 @@ pub(crate) fn first_line(bytes: &[u8]) -> Option<(&[u8], &[u8])>
     cut_at(bytes, b'\n')
 }
 
-/// Whether a line is a note, which reading skips.
+/// Returns whether a line is a note, which reading skips.
 pub(crate) fn is_note(text: &[u8]) -> bool
     ensures { result ≡ is_note text.now }
 {
     text.starts_with(b": ")
 }
 
-/// The header of a version, without its line feed.
+/// Returns the header of a version, without its line feed.
 pub(crate) fn header(version: Version) -> &'static [u8]
     ensures { result.now ≡ header_text version }
 {
@@ -39,14 +39,14 @@ pub(crate) fn header(version: Version) -> &'static [u8]
     }
 }
 
-/// Whether a line is the header of a version.
+/// Returns whether a line is the header of a version.
 fn is_header(text: &[u8], version: Version) -> bool
     ensures { IsTrue result ↔ (text.now ≡ header_text version) }
 {
     text == header(version)
 }
 
-/// The version that a header names.
+/// Reads the version that a header names.
 pub(crate) fn read_version(text: &[u8]) -> Option<Version>
     ensures { Reads header_text (λ _. Unit {0}) text.now result }
 {
@@ -59,14 +59,14 @@ pub(crate) fn read_version(text: &[u8]) -> Option<Version>
     None
 }
 
-/// Whether a line is the end of an image.
+/// Returns whether a line is the last line of an image.
 pub(crate) fn is_end(text: &[u8]) -> bool
     ensures { IsTrue result ↔ (text.now ≡ end_text) }
 {
     text == b"end".as_slice()
 }
 
-/// The letter of a fact that a text spells.
+/// Reads the letter of a fact that a text spells.
 fn read_letter(text: &[u8]) -> Option<u8>
     ensures { Reads (λ letter. letter ∷ []) (λ letter. is_fact_letter letter ≡ true) text.now result }
 {
@@ -76,14 +76,14 @@ fn read_letter(text: &[u8]) -> Option<u8>
     }
 }
 
-/// Whether a fact can have this value.
+/// Returns whether a fact can have this value.
 fn is_value(value: &[u8]) -> bool
     ensures { result ≡ is_fact_value value.now }
 {
     !value.is_empty() && value.len() <= 255
 }
 
-/// The value of a fact that a text prints.
+/// Reads the value of a fact that a text prints.
 fn read_value(alloc: Global, text: &[u8]) -> Result<Option<Bytes>, AllocError>
     ensures { IfOk result (Reads printed IsFactValue text.now) }
 {
@@ -102,7 +102,7 @@ fn is_fact_word(text: &[u8]) -> bool
     text == b"fact".as_slice()
 }
 
-/// The fact that three texts spell.
+/// Reads the fact that three texts spell.
 fn fact_with(
     alloc: Global,
     word: &[u8],
@@ -124,7 +124,7 @@ fn fact_with(
     Ok(Some((letter, value)))
 }
 
-/// The fact that texts spell.
+/// Reads the fact that the pieces of a line spell.
 fn fact_of(alloc: Global, pieces: &[&[u8]]) -> Result<Option<(u8, Bytes)>, AllocError>
     ensures { IfOk result (Reads fact_texts IsByteFact (texts pieces.now)) }
 {
@@ -134,7 +134,7 @@ fn fact_of(alloc: Global, pieces: &[&[u8]]) -> Result<Option<(u8, Bytes)>, Alloc
     }
 }
 
-/// The fact that a line spells.
+/// Reads the fact that a line spells.
 pub(crate) fn read_fact(alloc: Global, text: &[u8]) -> Result<Option<(u8, Bytes)>, AllocError>
     ensures { IfOk result (Reads fact_text IsByteFact text.now) }
 {

@@ -1,4 +1,4 @@
-//! Printed names and paths, read back.
+//! Reads printed names and paths.
 ghost use Rattle.std.specs.Prelude.{◌≡◌, ◌==◌, [], map, IfOk};
 ghost use Rattle.std.specs.List.{list_all, slice_split};
 ghost use Rattle.pv_path.specs.Printing.{is_plain_but, printed, printed_path};
@@ -10,14 +10,14 @@ use crate::printed::read_printed;
 use pv_path::{Name, TreePath, is_name, is_plain};
 use std::alloc::{AllocError, Global};
 
-/// Whether each byte of a text is printed as itself.
+/// Returns whether each byte of a text is printed as itself.
 pub(crate) fn is_plain_text(text: &[u8]) -> bool
     ensures { result ≡ list_all (is_plain_but []) text.now }
 {
     text.iter().all(|b| is_plain(*b, b""))
 }
 
-/// The name that a text prints.
+/// Reads the name that a text prints.
 fn read_name(alloc: Global, text: &[u8]) -> Result<Option<Name>, AllocError>
     ensures { IfOk result (Reads printed IsName text.now) }
 {
@@ -27,7 +27,7 @@ fn read_name(alloc: Global, text: &[u8]) -> Result<Option<Name>, AllocError>
     read_printed_name(alloc, text)
 }
 
-/// The name that a text prints, of which some bytes may stand for others.
+/// Reads the name that a text prints, some bytes of which may be escaped.
 fn read_printed_name(alloc: Global, text: &[u8]) -> Result<Option<Name>, AllocError>
     ensures { IfOk result (Reads printed IsName text.now) }
 {
@@ -40,7 +40,7 @@ fn read_printed_name(alloc: Global, text: &[u8]) -> Result<Option<Name>, AllocEr
     Ok(Some(Name::of(alloc, bytes.as_slice())?))
 }
 
-/// The path whose names a text prints, with a slash between them.
+/// Reads the path whose names a text prints, with a slash between them.
 fn read_names(alloc: Global, text: &[u8]) -> Result<Option<TreePath>, AllocError>
     ensures { IfOk result (Reads (map printed) HasNames (slice_split (λ b. b == 47) text.now)) }
 {
@@ -60,7 +60,7 @@ fn read_names(alloc: Global, text: &[u8]) -> Result<Option<TreePath>, AllocError
     Ok(Some(path))
 }
 
-/// The path that a text prints.
+/// Reads the path that a text prints.
 pub(crate) fn read_path(alloc: Global, text: &[u8]) -> Result<Option<TreePath>, AllocError>
     ensures { IfOk result (Reads printed_path HasNames text.now) }
 {

@@ -1,4 +1,4 @@
-//! Nodes, read from their lines.
+//! Reads nodes from their lines.
 ghost use Rattle.std.specs.Prelude.{◌≡◌, ◌≤◌, Some, IfOk, option_map};
 ghost use Rattle.pv_path.specs.Paths.{Path};
 ghost use Rattle.pv_path.specs.Printing.{printed_path};
@@ -18,19 +18,19 @@ use pv_path::TreePath;
 use pv_steps::{Kind, Node, Object, Stamps, special_bits};
 use std::alloc::{AllocError, Global};
 
-/// The columns of a node in version 2, which has the most.
+/// The number of columns of a node in version 2, which has the most.
 const MOST_COLUMNS: usize = 10;
 
-/// The columns of a line, of which some are those that its version has more.
+/// The texts of the columns of a node line.
 #[derive(Clone, Copy)]
 pub struct LineTexts<'a, 'b> {
     /// The kind of the object.
     pub kind: &'a [u8],
-    /// Its path.
+    /// The path of the object.
     pub path: &'a [u8],
-    /// The special bits and the permissions.
+    /// The mode, in octal.
     pub mode: &'a [u8],
-    /// The ID of the owner.
+    /// The user ID of the owner.
     pub uid: &'a [u8],
     /// The ID of the owning group.
     pub gid: &'a [u8],
@@ -38,28 +38,28 @@ pub struct LineTexts<'a, 'b> {
     pub stamps: &'a [u8],
     /// The ACL.
     pub acl: &'a [u8],
-    /// The columns that the version has more.
+    /// The columns that only version 2 has. In version 1 the slice is empty.
     pub extras: &'a [&'b [u8]],
-    /// What the object holds.
+    /// The payload: the bytes of a file, the target of a link, or the numbers of a device.
     pub payload: &'a [u8],
 }
 
-/// The columns of a node that are letters and digits alone.
+/// The columns of a node that are read without an allocation: kind, mode, owner, owning group and timestamps.
 #[derive(Clone, Copy)]
 pub struct Plain {
     /// The kind of the object.
     pub kind: Kind,
-    /// The special bits and the permissions, 0 to 4095.
+    /// The mode: the 12 bits of chmod(2).
     pub mode: u16,
-    /// The ID of the owner, 0 to 4294967294.
+    /// The user ID of the owner, 0 to 4294967294.
     pub uid: u32,
     /// The ID of the owning group, 0 to 4294967294.
     pub gid: u32,
-    /// The four timestamps.
+    /// The four timestamps, in microseconds since 1970-01-01 UTC.
     pub stamps: Stamps,
 }
 
-/// The plain columns that the texts of a line spell.
+/// Reads the columns that are read without an allocation: kind, mode, owner, owning group and timestamps.
 fn read_plain(line: &LineTexts<'_, '_>) -> Option<Plain>
     ensures { Reads plain_texts IsPlain (plain_columns line.now) result }
 {
@@ -72,7 +72,7 @@ fn read_plain(line: &LineTexts<'_, '_>) -> Option<Plain>
     })
 }
 
-/// The ACL of a link, which says no more than its mode.
+/// Reads the ACL of a link, which has no more than the mode 0777.
 fn link_acl(alloc: Global, mode: u16, text: &[u8]) -> Option<Acl>
     requires { mode ≤ 4095 }
     ensures { Reads acl_text (IsAclOf Kind.Link mode) text.now result }
@@ -84,7 +84,7 @@ fn link_acl(alloc: Global, mode: u16, text: &[u8]) -> Option<Acl>
     }
 }
 
-/// The ACL that a text spells for an object of a kind with a mode.
+/// Reads the ACL that a text spells for an object of a kind with a mode.
 fn read_acl_of(alloc: Global, kind: Kind, mode: u16, text: &[u8]) -> Result<Option<Acl>, AllocError>
     requires { mode ≤ 4095 }
     ensures { IfOk result (Reads acl_text (IsAclOf kind mode) text.now) }
@@ -96,7 +96,7 @@ fn read_acl_of(alloc: Global, kind: Kind, mode: u16, text: &[u8]) -> Result<Opti
     }
 }
 
-/// The object of what the columns spell.
+/// Returns the object that has what the columns spell.
 fn object_of(plain: Plain, acl: Acl, extras: Extras, payload: Payload) -> Object
     ensures { result ≡ object_of plain acl extras payload }
 {
@@ -123,7 +123,7 @@ fn object_of(plain: Plain, acl: Acl, extras: Extras, payload: Payload) -> Object
     }
 }
 
-/// The object of the plain columns of a line and of what its other texts spell, beside the path.
+/// Reads the object of a line whose plain columns are already read.
 fn object_with(
     alloc: Global,
     version: Version,
@@ -147,7 +147,7 @@ fn object_with(
     Ok(Some(object_of(plain, acl, extras, payload)))
 }
 
-/// The path and the object that the texts of a line spell.
+/// Reads the path and the object that the columns of a line spell.
 fn entry_with(
     alloc: Global,
     version: Version,
@@ -167,7 +167,7 @@ fn entry_with(
     Ok(Some((path, object)))
 }
 
-/// The path and the object that the columns of a version spell.
+/// Reads the path and the object that the pieces of a line spell in a version.
 fn entry_of(
     alloc: Global,
     version: Version,
@@ -204,7 +204,7 @@ fn entry_of(
     }
 }
 
-/// The path and the object that a line of a version spells.
+/// Reads the path and the object that a line spells in a version.
 pub(crate) fn read_node(
     alloc: Global,
     version: Version,

@@ -1,4 +1,4 @@
-//! What an object keeps beside its attributes, read from its column.
+//! The last column of a node: the bytes of a file, the target of a link, or the numbers of a device.
 ghost use Rattle.std.specs.Prelude.{◌≡◌, ◌↔◌, [], codes, IsTrue, IfOk, option_map};
 ghost use Rattle.base64.specs.GeneralPurpose.{encode_of};
 ghost use Rattle.base64.specs.Engines.{standard};
@@ -14,18 +14,18 @@ use pv_path::{Bytes, pieces_of};
 use pv_steps::{Kind, is_target};
 use std::alloc::{AllocError, Global};
 
-/// The bytes of a file or the target of a link, and the numbers of a device.
+/// What the last column of a node spells: the bytes of a file, the target of a link, or the numbers of a device.
 #[derive(Drop)]
 pub struct Payload {
-    /// The bytes of a file or the target of a link; otherwise none.
+    /// The bytes of a file or the target of a link; empty for other kinds.
     pub bytes: Bytes,
-    /// The major number of a device; otherwise 0.
+    /// The major number of a device; 0 for other kinds.
     pub major: u32,
-    /// The minor number of a device; otherwise 0.
+    /// The minor number of a device; 0 for other kinds.
     pub minor: u32,
 }
 
-/// The bytes that a text encodes in Base64.
+/// Decodes the Base64 of a text.
 fn decode(alloc: Global, text: &[u8]) -> Result<Option<Bytes>, AllocError>
     ensures { IfOk result (Reads (encode_of standard) IsByteText text.now) }
 {
@@ -36,14 +36,14 @@ fn decode(alloc: Global, text: &[u8]) -> Result<Option<Bytes>, AllocError>
     }
 }
 
-/// Whether a text is a dash alone.
+/// Returns whether a text is a single dash.
 pub(crate) fn is_dash(text: &[u8]) -> bool
     ensures { IsTrue result ↔ (text.now ≡ codes "-") }
 {
     matches!(text, [b'-'])
 }
 
-/// The bytes of a file that a text spells.
+/// Reads the bytes of a file that a text spells.
 fn read_content(alloc: Global, text: &[u8]) -> Result<Option<Bytes>, AllocError>
     ensures { IfOk result (Reads content_text IsByteText text.now) }
 {
@@ -56,7 +56,7 @@ fn read_content(alloc: Global, text: &[u8]) -> Result<Option<Bytes>, AllocError>
     decode(alloc, text)
 }
 
-/// The target of a link that a text prints.
+/// Reads the target of a link that a text prints.
 fn read_target(alloc: Global, text: &[u8]) -> Result<Option<Bytes>, AllocError>
     ensures { IfOk result (Reads printed IsByteTarget text.now) }
 {
@@ -69,7 +69,7 @@ fn read_target(alloc: Global, text: &[u8]) -> Result<Option<Bytes>, AllocError>
     Ok(Some(bytes))
 }
 
-/// The two numbers that texts spell.
+/// Reads the two numbers that texts spell.
 fn numbers_of(pieces: &[&[u8]]) -> Option<(u32, u32)>
     ensures { Reads number_texts AreNumbers (texts pieces.now) result }
 {
@@ -79,7 +79,7 @@ fn numbers_of(pieces: &[&[u8]]) -> Option<(u32, u32)>
     }
 }
 
-/// The numbers of a device that a text spells.
+/// Reads the numbers of a device that a text spells.
 fn read_numbers(alloc: Global, text: &[u8]) -> Result<Option<(u32, u32)>, AllocError>
     ensures { IfOk result (Reads numbers_text AreNumbers text.now) }
 {
@@ -108,7 +108,7 @@ fn of_numbers(alloc: Global, numbers: Option<(u32, u32)>) -> Option<Payload>
     })
 }
 
-/// No bytes, which a dash spells.
+/// Reads a dash as no bytes.
 fn read_nothing(alloc: Global, text: &[u8]) -> Option<Bytes>
     ensures { Reads (λ _. codes "-") (λ bytes. bytes ≡ []) text.now result }
 {
@@ -119,7 +119,7 @@ fn read_nothing(alloc: Global, text: &[u8]) -> Option<Bytes>
     }
 }
 
-/// The payload of an object of a kind that a text spells.
+/// Reads the payload that a text spells for an object of a kind.
 pub(crate) fn read_payload(
     alloc: Global,
     kind: Kind,

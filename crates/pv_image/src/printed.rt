@@ -1,12 +1,12 @@
-//! Printed bytes, read back.
+//! Reads printed bytes.
 ghost use Rattle.std.specs.Prelude.{◌≡◌, ◌<◌, ◌∷◌, [], IfOk, option_map};
 ghost use Rattle.pv_path.specs.Printing.{hex_digit, is_plain_but, printed, printed_by};
-ghost use Rattle.pv_image.specs.Reading.{IsByteText, IsEscaped, IsFront, Reads, front_of, hex_digits, printed_front};
+ghost use Rattle.pv_image.specs.Reading.{IsByteText, IsEscaped, BeginsWithByte, Reads, byte_and_rest, hex_digits, printed_with_rest};
 
 use pv_path::{Bytes, add_plain, is_plain};
 use std::alloc::{AllocError, Global};
 
-/// The number that a lower case hexadecimal digit spells.
+/// Returns the number that a lower case hexadecimal digit spells.
 fn read_hex(byte: u8) -> Option<u8>
     ensures { Reads hex_digit (λ d. d < 16) byte result }
 {
@@ -17,7 +17,7 @@ fn read_hex(byte: u8) -> Option<u8>
     }
 }
 
-/// The byte that two hexadecimal digits spell, if it is not printed as itself.
+/// Returns the byte that two hexadecimal digits spell, if it is one that has to be escaped.
 fn read_escaped(high: u8, low: u8, hidden: &[u8]) -> Option<u8>
     ensures { Reads hex_digits (IsEscaped hidden.now) (high ∷ low ∷ []) result }
 {
@@ -28,9 +28,9 @@ fn read_escaped(high: u8, low: u8, hidden: &[u8]) -> Option<u8>
     Some(byte)
 }
 
-/// The byte that a text begins with as it is printed, and what stands after it.
+/// Returns the byte that a printed text begins with, and what is after it.
 fn next_byte<'a>(text: &'a [u8], hidden: &[u8]) -> Option<(u8, &'a [u8])>
-    ensures { Reads (printed_front hidden.now) IsFront text.now (option_map front_of result) }
+    ensures { Reads (printed_with_rest hidden.now) BeginsWithByte text.now (option_map byte_and_rest result) }
 {
     match text {
         [b'\\', b'x', high, low, rest @ ..] => Some((read_escaped(*high, *low, hidden)?, rest)),
@@ -39,7 +39,8 @@ fn next_byte<'a>(text: &'a [u8], hidden: &[u8]) -> Option<(u8, &'a [u8])>
     }
 }
 
-/// The bytes that a text prints where some more bytes are hidden.
+/// Reads the bytes that a text prints, if the bytes of `hidden` have to be escaped too. Gives `None` if the text is
+/// not a spelling.
 pub(crate) fn read_printed_but(
     alloc: Global,
     text: &[u8],
@@ -61,7 +62,7 @@ pub(crate) fn read_printed_but(
     Ok(Some(Bytes::from_vec(bytes)))
 }
 
-/// The bytes that a text prints.
+/// Reads the bytes that a text prints, or gives `None` if the text is not a spelling.
 pub(crate) fn read_printed(alloc: Global, text: &[u8]) -> Result<Option<Bytes>, AllocError>
     ensures { IfOk result (Reads printed IsByteText text.now) }
 {

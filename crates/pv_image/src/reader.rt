@@ -1,4 +1,4 @@
-//! Images, read line by line.
+//! Reads images line by line.
 ghost use Rattle.std.specs.Prelude.{◌≡◌, ◌≢◌, ℕ, ◌+◌, ◌<◌, ◌≤◌, ◌^◌, List, [], ◌∷◌, ◌++◌, true, length, Some, Ok, Err, IfOk, IfErr, OnOk, ◌⊎◌};
 ghost use Rattle.std.specs.Ordering.{nat_cmp};
 ghost use Rattle.std.specs.FinMap as fin;
@@ -21,7 +21,7 @@ use pv_text::Facts;
 use pv_tree::{MemTree, TreeBuilder};
 use std::alloc::Global;
 
-/// What is left to read, and the number of its first line.
+/// The bytes that are left to read, and the number of their first line.
 #[derive(Clone, Copy)]
 struct Left<'a> {
     number: u64,
@@ -57,7 +57,7 @@ fn read_header(bytes: &[u8]) -> Result<(Version, Left<'_>), ImageFault>
     Err(ImageFault::Truncated(number))
 }
 
-/// Whether a letter is greater than the last one.
+/// Returns whether a letter is greater than the last one.
 fn is_after(last: Option<u8>, letter: u8) -> bool
     ensures { result ≡ letter_after last letter }
 {
@@ -67,7 +67,7 @@ fn is_after(last: Option<u8>, letter: u8) -> bool
     }
 }
 
-/// Adds a fact, where it may stand after the facts before it.
+/// Adds a fact, if it may come after the facts before it.
 fn add_fact(
     facts: &mut Facts,
     last: Option<u8>,
@@ -91,7 +91,7 @@ fn add_fact(
     Ok(())
 }
 
-/// Reads the facts, up to a line that is none.
+/// Reads the facts, up to a line that is not a fact.
 fn read_facts<'a>(alloc: Global, left: Left<'a>) -> Result<(Facts, Left<'a>), ImageFault>
     requires { left.number + length left.bytes.now < 2 ^ 64 }
     ensures leads { (version : VersionValue) → let n = left.entry.number in let bytes = left.entry.bytes.now in
@@ -125,7 +125,7 @@ fn read_facts<'a>(alloc: Global, left: Left<'a>) -> Result<(Facts, Left<'a>), Im
     Err(ImageFault::Truncated(number))
 }
 
-/// Reads the first node, which is the root, where no fact may stand any more.
+/// Reads the first node, which must be the root. The next line is known not to be a fact.
 fn read_root<'a>(
     alloc: Global,
     version: Version,
@@ -158,7 +158,7 @@ fn read_root<'a>(
     ))
 }
 
-/// The fault of a line that is no fact and no node, where no node stands before it.
+/// Returns the error of a line that is neither a fact nor a node, if no node was read before it.
 fn fault_of(number: u64, text: &[u8]) -> ImageFault
     ensures end { text.now ≡ end_text → result ≡ ImageFault.NoParent number }
     ensures bad { text.now ≢ end_text → result ≡ ImageFault.BadLine number }
@@ -172,7 +172,7 @@ fn fault_of(number: u64, text: &[u8]) -> ImageFault
     }
 }
 
-/// Reads the other nodes, and the end. Each node is put next to the one before it.
+/// Reads the other nodes, and the end. Each node is added after the one before it.
 fn read_nodes<'a>(
     alloc: Global,
     version: Version,
@@ -207,7 +207,7 @@ fn read_nodes<'a>(
     Err(ImageFault::Truncated(number))
 }
 
-/// Sees that nothing follows the end.
+/// Checks that nothing comes after the end.
 fn check_end(left: Left<'_>) -> Result<(), ImageFault>
     ensures ok { OnOk result (left.entry.bytes.now ≡ []) }
     ensures err { IfErr result (HasFault left.entry.number After left.entry.bytes.now) }
@@ -221,16 +221,16 @@ fn check_end(left: Left<'_>) -> Result<(), ImageFault>
     }
 }
 
-/// What an image holds: a tree, and facts about the system.
+/// The content of an image: a tree, and facts about its system.
 #[derive(Drop)]
 pub struct Image {
-    /// The nodes, as a tree that tells no step.
+    /// The objects, as a tree with no step recorded.
     pub tree: MemTree,
-    /// The values of the letters that have one.
+    /// The facts: the values of the letters that have one.
     pub facts: Facts,
 }
 
-/// Reads the whole of an image.
+/// Reads a complete image.
 fn read_whole(alloc: Global, bytes: &[u8]) -> Result<Image, ImageFault>
     ensures image { IfOk result (λ image. IsImage bytes.now image.facts image.tree.files) }
     ensures steps { IfOk result (λ image. image.tree.steps ≡ []) }
@@ -247,9 +247,15 @@ fn read_whole(alloc: Global, bytes: &[u8]) -> Result<Image, ImageFault>
     })
 }
 
-/// Reads an image of either version. The answer is the tree and the facts, or the first fault with the number of its
-/// line. The bytes are the one text of this tree and these facts after some notes. Bytes that are an image are refused
-/// for running out of memory alone. No step is recorded in the tree. `TooLong` is never answered.
+/// Reads an image of either version, and returns its tree and its facts.
+///
+/// If the answer is `Ok`, the bytes begin with any number of notes, which are lines that begin with `: `. After them
+/// comes the text of this tree and these facts, in one of the two versions, and nothing else. No step is recorded in
+/// the tree. For bytes that are an image, the only error is `Memory`.
+///
+/// Every error other than `Memory` is the first defect of the bytes, with the number of its line counted from 1. The
+/// call does not check the length of `bytes`, so it never returns `TooLong`. A caller that wants a limit must check the
+/// length itself. For example:
 ///
 /// ```text
 /// let image = read_image(alloc, b"tree-image 2\nd / 0755 0 0 0,0,0,0 - - - -\nend\n")?;

@@ -1,4 +1,4 @@
-//! Nodes, put into the tree in the order in which they are read.
+//! Adds nodes to the tree in the order in which they are read.
 ghost use Rattle.std.specs.Prelude.{◌≡◌, ◌≢◌, ◌∷◌, ◌++◌, [], Some, Ok, IfOk, IfErr, OnOk, true, false};
 ghost use Rattle.std.specs.FinMap as fin;
 ghost use Rattle.pv_steps.specs.Objects.{IsObject};
@@ -13,7 +13,7 @@ use pv_steps::Object;
 use pv_tree::{BuildFault, TreeBuilder};
 use std::alloc::Global;
 
-/// Puts a node into a tree in the making, where it may stand after the nodes before it.
+/// Adds a node to the tree that is being built, if it may come after the nodes before it.
 pub(crate) fn add_node(
     tree: &mut TreeBuilder,
     number: u64,
@@ -39,7 +39,7 @@ pub(crate) fn add_node(
     }
 }
 
-/// The tree of a first node, which is the root and a directory.
+/// Begins the tree with its first node, which must be the root directory.
 pub(crate) fn root_tree(
     alloc: Global,
     number: u64,

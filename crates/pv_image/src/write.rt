@@ -1,4 +1,4 @@
-//! Facts and nodes, written as an image spells them.
+//! Writes facts and nodes as an image spells them.
 ghost use Rattle.std.specs.Prelude.{◌≡◌, ◌<◌, ◌≤◌, ◌+◌, ◌∷◌, ◌++◌, [], true, codes, length, IfOk, OnOk};
 ghost use Rattle.std.specs.Fmt.{decimal};
 ghost use Rattle.std.specs.List.{flat_map};
@@ -21,7 +21,7 @@ use pv_path::{Name, add_printed, add_printed_but};
 use pv_steps::{Attr, Kind, LetterSet, Node, Stamps};
 use std::alloc::{AllocError, Global};
 
-/// The letter of a kind.
+/// Returns the letter of a kind.
 fn kind_letter(kind: Kind) -> u8
     ensures { kind_text kind ≡ result ∷ [] }
 {
@@ -35,7 +35,7 @@ fn kind_letter(kind: Kind) -> u8
     }
 }
 
-/// Adds a space and a text.
+/// Appends a space and a text.
 fn add_column(output: &mut Vec<u8>, text: &[u8]) -> Result<(), AllocError>
     ensures { OnOk result (output.new.items ≡ output.old.items ++ 32 ∷ text.now) }
 {
@@ -44,7 +44,7 @@ fn add_column(output: &mut Vec<u8>, text: &[u8]) -> Result<(), AllocError>
     Ok(())
 }
 
-/// Adds a space and a dash.
+/// Appends a space and a dash.
 fn add_dash(output: &mut Vec<u8>) -> Result<(), AllocError>
     ensures { OnOk result (output.new.items ≡ output.old.items ++ 32 ∷ codes "-") }
 {
@@ -53,7 +53,7 @@ fn add_dash(output: &mut Vec<u8>) -> Result<(), AllocError>
     Ok(())
 }
 
-/// Adds a space and a text, or a dash for none.
+/// Appends a space and a text, or a dash if the text is empty.
 fn add_or_dash(output: &mut Vec<u8>, text: &[u8]) -> Result<(), AllocError>
     ensures { OnOk result (output.new.items ≡ output.old.items ++ 32 ∷ or_dash text.now) }
 {
@@ -63,7 +63,7 @@ fn add_or_dash(output: &mut Vec<u8>, text: &[u8]) -> Result<(), AllocError>
     }
 }
 
-/// Adds a space and printed bytes.
+/// Appends a space and printed bytes.
 fn add_printed_column(output: &mut Vec<u8>, bytes: &[u8]) -> Result<(), AllocError>
     ensures { OnOk result (output.new.items ≡ output.old.items ++ 32 ∷ printed bytes.now) }
 {
@@ -71,7 +71,7 @@ fn add_printed_column(output: &mut Vec<u8>, bytes: &[u8]) -> Result<(), AllocErr
     add_printed(output, bytes)
 }
 
-/// Adds a few bytes in Base64.
+/// Appends a few bytes in Base64.
 fn add_encoded(output: &mut Vec<u8>, bytes: &[u8]) -> Result<(), AllocError>
     requires { length bytes.now ≤ 768 }
     ensures { OnOk result (output.new.items ≡ output.old.items ++ encode_of standard bytes.now) }
@@ -84,7 +84,7 @@ fn add_encoded(output: &mut Vec<u8>, bytes: &[u8]) -> Result<(), AllocError>
     Ok(())
 }
 
-/// Adds bytes in Base64, so many at a time that no second text of their length is made.
+/// Appends bytes in Base64. It encodes a few at a time, so that no second text of their length is made.
 fn add_base64(output: &mut Vec<u8>, content: &[u8]) -> Result<(), AllocError>
     ensures { OnOk result (output.new.items ≡ output.old.items ++ encode_of standard content.now) }
 {
@@ -98,7 +98,7 @@ fn add_base64(output: &mut Vec<u8>, content: &[u8]) -> Result<(), AllocError>
     Ok(())
 }
 
-/// Adds a space and the bytes of a file in Base64, or a dash for none.
+/// Appends a space and the bytes of a file in Base64, or a dash if the file is empty.
 fn add_content(output: &mut Vec<u8>, content: &[u8]) -> Result<(), AllocError>
     ensures { OnOk result (output.new.items ≡ output.old.items ++ 32 ∷ content_text content.now) }
 {
@@ -111,7 +111,7 @@ fn add_content(output: &mut Vec<u8>, content: &[u8]) -> Result<(), AllocError>
     }
 }
 
-/// Adds a space and two numbers with a colon between them.
+/// Appends a space and two numbers with a colon between them.
 fn add_numbers(output: &mut Vec<u8>, major: u32, minor: u32) -> Result<(), AllocError>
     ensures { OnOk result (output.new.items ≡ output.old.items ++ 32 ∷ numbers_text (major, minor)) }
 {
@@ -119,7 +119,7 @@ fn add_numbers(output: &mut Vec<u8>, major: u32, minor: u32) -> Result<(), Alloc
     add_number(output, b':', u64::from(minor))
 }
 
-/// Adds a space and what an object keeps beside its attributes.
+/// Appends a space and the payload: the bytes of a file, the target of a link, or the numbers of a device.
 fn add_payload(output: &mut Vec<u8>, node: &Node, payload: &[u8]) -> Result<(), AllocError>
     ensures { OnOk result (output.new.items ≡ output.old.items ++ 32 ∷ payload_text node.now.kind
         (record { bytes = payload.now; major = node.now.major; minor = node.now.minor })) }
@@ -132,7 +132,7 @@ fn add_payload(output: &mut Vec<u8>, node: &Node, payload: &[u8]) -> Result<(), 
     }
 }
 
-/// One octal digit of a mode.
+/// Returns one octal digit of a mode.
 fn octal(digit: u8) -> u8
     requires { digit ≤ 7 }
     ensures { result ≡ 48 + digit }
@@ -140,7 +140,7 @@ fn octal(digit: u8) -> u8
     b'0' + digit
 }
 
-/// Adds a space and the four octal digits of a mode.
+/// Appends a space and the four octal digits of a mode.
 fn add_mode(output: &mut Vec<u8>, special: u8, access: &Part) -> Result<(), AllocError>
     ensures { OnOk result (output.new.items ≡ output.old.items ++ 32 ∷ mode_text (mode_of special access.now)) }
 {
@@ -152,7 +152,7 @@ fn add_mode(output: &mut Vec<u8>, special: u8, access: &Part) -> Result<(), Allo
     Ok(())
 }
 
-/// Adds a separator and a number of one digit.
+/// Appends a separator and a number of one digit.
 fn add_digit(output: &mut Vec<u8>, separator: u8, number: u8) -> Result<(), AllocError>
     requires { number < 10 }
     ensures { OnOk result (output.new.items ≡ output.old.items ++ separator ∷ decimal number) }
@@ -162,7 +162,8 @@ fn add_digit(output: &mut Vec<u8>, separator: u8, number: u8) -> Result<(), Allo
     Ok(())
 }
 
-/// Adds a separator and a decimal number. One of one digit, as most of a folder's manifest, is added at once.
+/// Appends a separator and a decimal number. A number of one digit, as most in the manifest of a folder, is
+/// appended at once.
 fn add_number(output: &mut Vec<u8>, separator: u8, number: u64) -> Result<(), AllocError>
     ensures { OnOk result (output.new.items ≡ output.old.items ++ separator ∷ decimal number) }
 {
@@ -175,7 +176,7 @@ fn add_number(output: &mut Vec<u8>, separator: u8, number: u64) -> Result<(), Al
     Ok(())
 }
 
-/// Adds a space and the four timestamps.
+/// Appends a space and the four timestamps.
 fn add_stamps(output: &mut Vec<u8>, stamps: &Stamps) -> Result<(), AllocError>
     ensures { OnOk result (output.new.items ≡ output.old.items ++ 32 ∷ stamps_text stamps.now) }
 {
@@ -185,7 +186,7 @@ fn add_stamps(output: &mut Vec<u8>, stamps: &Stamps) -> Result<(), AllocError>
     add_number(output, b',', stamps.modify)
 }
 
-/// Adds a slash and printed bytes.
+/// Appends a slash and a printed name.
 fn add_name(output: &mut Vec<u8>, name: &[u8]) -> Result<(), AllocError>
     ensures { OnOk result (output.new.items ≡ output.old.items ++ 47 ∷ printed name.now) }
 {
@@ -197,7 +198,7 @@ fn add_name(output: &mut Vec<u8>, name: &[u8]) -> Result<(), AllocError>
     add_printed(output, name)
 }
 
-/// Adds the printed names of a path, each after a slash.
+/// Appends the printed names of a path, each after a slash.
 fn add_names(output: &mut Vec<u8>, path: &[Name]) -> Result<(), AllocError>
     ensures { let names = flat_map (λ n. 47 ∷ printed n) path.now in
         OnOk result (output.new.items ≡ output.old.items ++ names) }
@@ -208,7 +209,7 @@ fn add_names(output: &mut Vec<u8>, path: &[Name]) -> Result<(), AllocError>
     Ok(())
 }
 
-/// Adds a space and a printed path.
+/// Appends a space and a printed path.
 fn add_path(output: &mut Vec<u8>, path: &[Name]) -> Result<(), AllocError>
     ensures { OnOk result (output.new.items ≡ output.old.items ++ 32 ∷ printed_path path.now) }
 {
@@ -219,7 +220,7 @@ fn add_path(output: &mut Vec<u8>, path: &[Name]) -> Result<(), AllocError>
     add_names(output, path)
 }
 
-/// Adds a space and the entries of an ACL, or a dash where its mode says all of it (acl(5)).
+/// Appends a space and the entries of an ACL, or a dash if the mode says everything (acl(5)).
 fn add_acl(alloc: Global, output: &mut Vec<u8>, acl: &Acl) -> Result<(), AllocError>
     ensures { OnOk result (output.new.items ≡ output.old.items ++ 32 ∷ acl_text acl.now) }
 {
@@ -230,7 +231,7 @@ fn add_acl(alloc: Global, output: &mut Vec<u8>, acl: &Acl) -> Result<(), AllocEr
     add_column(output, text.as_slice())
 }
 
-/// Adds an attribute, with an equals sign after its name (xattr(7)).
+/// Appends an attribute: its name, an equals sign and its value (xattr(7)).
 fn add_attr(output: &mut Vec<u8>, attr: &Attr) -> Result<(), AllocError>
     ensures { OnOk result (output.new.items ≡ output.old.items ++ attr_text attr.now) }
 {
@@ -239,7 +240,7 @@ fn add_attr(output: &mut Vec<u8>, attr: &Attr) -> Result<(), AllocError>
     add_printed_but(output, attr.value.as_slice(), b",=")
 }
 
-/// Adds attributes, each after a comma.
+/// Appends attributes, each after a comma.
 fn add_more_attrs(output: &mut Vec<u8>, attrs: &[Attr]) -> Result<(), AllocError>
     ensures { let texts = flat_map (λ attr. 44 ∷ attr_text attr) attrs.now in
         OnOk result (output.new.items ≡ output.old.items ++ texts) }
@@ -251,7 +252,7 @@ fn add_more_attrs(output: &mut Vec<u8>, attrs: &[Attr]) -> Result<(), AllocError
     Ok(())
 }
 
-/// Adds a space and attributes, or a dash for none.
+/// Appends a space and attributes, or a dash if there are none.
 fn add_attrs(output: &mut Vec<u8>, attrs: &[Attr]) -> Result<(), AllocError>
     ensures { OnOk result (output.new.items ≡ output.old.items ++ 32 ∷ attrs_text attrs.now) }
 {
@@ -266,7 +267,7 @@ fn add_attrs(output: &mut Vec<u8>, attrs: &[Attr]) -> Result<(), AllocError>
     }
 }
 
-/// Adds a space and letters, or a dash for none (chattr(1)).
+/// Appends a space and the letters of flags, or a dash if there are none (chattr(1)).
 fn add_letters(alloc: Global, output: &mut Vec<u8>, letters: LetterSet) -> Result<(), AllocError>
     ensures { OnOk result (output.new.items ≡ output.old.items ++ 32 ∷ letters_text letters) }
 {
@@ -277,7 +278,7 @@ fn add_letters(alloc: Global, output: &mut Vec<u8>, letters: LetterSet) -> Resul
     add_or_dash(output, text.as_slice())
 }
 
-/// Adds the columns of the mode, the owner and the owning group.
+/// Appends the columns of the mode, the owner and the owning group.
 fn add_owner(output: &mut Vec<u8>, node: &Node) -> Result<(), AllocError>
     ensures { let n = node.now in let mode = mode_of n.special n.acl.access in
         let texts = mode_text mode ∷ decimal n.uid ∷ decimal n.gid ∷ [] in
@@ -288,7 +289,7 @@ fn add_owner(output: &mut Vec<u8>, node: &Node) -> Result<(), AllocError>
     add_number(output, b' ', u64::from(node.gid))
 }
 
-/// Adds the columns of the ACL, the attributes, the letters and the payload.
+/// Appends the columns of the ACL, the attributes, the flags and the payload.
 fn add_others(
     alloc: Global,
     output: &mut Vec<u8>,
@@ -306,7 +307,7 @@ fn add_others(
     add_payload(output, node, payload)
 }
 
-/// Adds the line of a node.
+/// Appends the line of a node.
 pub(crate) fn add_node(
     alloc: Global,
     output: &mut Vec<u8>,
@@ -326,8 +327,11 @@ pub(crate) fn add_node(
     Ok(())
 }
 
-/// An object as an image spells it, without its path and its timestamps: kind, mode, owner, owning group, ACL,
-/// attributes, letters and payload, with one space between them.
+/// Returns an object as an image of version 2 spells it, but without its path, its timestamps and the line feed.
+///
+/// The columns are kind, mode, owner, owning group, ACL, attributes, flags and payload, with one space between them.
+/// `payload` is the bytes of a file or the target of a link. The text fits into one line. The only error is
+/// `AllocError`.
 pub fn print_node(alloc: Global, node: &Node, payload: &[u8]) -> Result<Vec<u8>, AllocError>
     ensures text { IfOk result (λ text. text.items ≡ object_text (record { node = node.now; payload = payload.now })) }
     ensures line { IfOk result (λ text. is_line text.items ≡ true) }
@@ -339,7 +343,7 @@ pub fn print_node(alloc: Global, node: &Node, payload: &[u8]) -> Result<Vec<u8>,
     Ok(text)
 }
 
-/// Adds the line of a fact.
+/// Appends the line of a fact.
 pub(crate) fn add_fact(output: &mut Vec<u8>, letter: u8, value: &[u8]) -> Result<(), AllocError>
     ensures text { OnOk result (output.new.items ≡ output.old.items ++ line (fact_text (letter, value.now))) }
     ensures bytes { OnOk result (are_bytes value.now ≡ true) }

@@ -1,4 +1,4 @@
-//! The text of a whole image.
+//! Writes the text of a complete image.
 ghost use Rattle.std.specs.Prelude.{◌≡◌, ◌++◌, true, IfOk, OnOk};
 ghost use Rattle.std.specs.List.{flat_map, list_all};
 ghost use Rattle.std.specs.FinMap as fin;
@@ -19,7 +19,10 @@ use pv_text::{FACT_LETTERS, Facts};
 use pv_tree::MemTree;
 use std::alloc::{AllocError, Global};
 
-/// Writes the one text of facts and a tree, in version 2, which is an image of them.
+/// Returns the one text of a tree and its facts in version 2, which is an image of them.
+///
+/// So `read_image` reads this text as the same tree and the same facts, unless memory runs out. The only error is
+/// `AllocError`.
 pub fn write_image(alloc: Global, tree: &MemTree, facts: &Facts) -> Result<Vec<u8>, AllocError>
     ensures text { IfOk result (λ text. text.items ≡ text_of facts.now tree.now.files) }
     ensures image { IfOk result (λ text. IsImage text.items facts.now tree.now.files) }
@@ -29,7 +32,9 @@ pub fn write_image(alloc: Global, tree: &MemTree, facts: &Facts) -> Result<Vec<u
     Ok(output)
 }
 
-/// Adds the one text of facts and a tree, in version 2, which is an image of them, to a text.
+/// Appends the one text of a tree and its facts in version 2 to `output`.
+///
+/// What is appended is an image of them. The only error is `AllocError`. What `output` holds then is not specified.
 pub fn add_image(
     alloc: Global,
     output: &mut Vec<u8>,
@@ -42,7 +47,9 @@ pub fn add_image(
     add_image_with(alloc, output, tree, facts, Extent::Whole)
 }
 
-/// Writes the one text of facts and a tree with empty files, in version 2, which is an image of them.
+/// Returns the text that `write_image` gives for the same tree with every file empty.
+///
+/// The manifest of a folder is such a text. Links keep their targets. The only error is `AllocError`.
 pub fn write_emptied(alloc: Global, tree: &MemTree, facts: &Facts) -> Result<Vec<u8>, AllocError>
     ensures text { IfOk result (λ text. text.items ≡ text_of facts.now (with_empty_files tree.now.files)) }
     ensures image { IfOk result (λ text. IsImage text.items facts.now (with_empty_files tree.now.files)) }
@@ -52,7 +59,7 @@ pub fn write_emptied(alloc: Global, tree: &MemTree, facts: &Facts) -> Result<Vec
     Ok(output)
 }
 
-/// Adds the one text of facts and a tree to a text, with so much of its files.
+/// Appends the text of a tree and its facts, with or without the bytes of the files.
 fn add_image_with(
     alloc: Global,
     output: &mut Vec<u8>,
@@ -73,7 +80,7 @@ fn add_image_with(
     Ok(())
 }
 
-/// Adds the lines of all facts, in the order of their letters.
+/// Appends the lines of all facts, in the order of their letters.
 fn add_facts(output: &mut Vec<u8>, facts: &Facts) -> Result<(), AllocError>
     ensures text { let lines = flat_map fact_line (fin.entries facts.now) in
         OnOk result (output.new.items ≡ output.old.items ++ lines) }
@@ -85,7 +92,7 @@ fn add_facts(output: &mut Vec<u8>, facts: &Facts) -> Result<(), AllocError>
     Ok(())
 }
 
-/// Adds the line of the fact with a letter, where it has a value.
+/// Appends the line of the fact with a letter, if it has a value.
 fn add_fact_of(output: &mut Vec<u8>, facts: &Facts, letter: u8) -> Result<(), AllocError>
     ensures ok { OnOk result (output.new.items ≡ output.old.items ++ fact_line_of facts.now letter) }
     ensures facts { HasFactsAlone facts.now }
@@ -97,7 +104,7 @@ fn add_fact_of(output: &mut Vec<u8>, facts: &Facts, letter: u8) -> Result<(), Al
     }
 }
 
-/// What is kept of a payload where files are empty.
+/// Returns what is written of a payload if files are written as empty.
 fn emptied_payload(kind: Kind, payload: &[u8]) -> &[u8]
     ensures { result.now ≡ emptied_payload kind payload.now }
 {
@@ -107,7 +114,7 @@ fn emptied_payload(kind: Kind, payload: &[u8]) -> &[u8]
     }
 }
 
-/// What is written of a payload.
+/// Returns what is written of a payload.
 fn written_payload(extent: Extent, kind: Kind, payload: &[u8]) -> &[u8]
     ensures { result.now ≡ written_payload extent kind payload.now }
 {
@@ -117,7 +124,7 @@ fn written_payload(extent: Extent, kind: Kind, payload: &[u8]) -> &[u8]
     }
 }
 
-/// Adds the lines of all nodes, in the order of their paths, with so much of the files.
+/// Appends the lines of all nodes, in the order of their paths, with or without the bytes of the files.
 fn add_nodes(
     alloc: Global,
     output: &mut Vec<u8>,

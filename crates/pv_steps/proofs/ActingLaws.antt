@@ -7,7 +7,7 @@ use Rattle.pv_steps.specs.declared.tree.TreeFault.{TreeFault}
 use Rattle.pv_steps.specs.declared.tree.TreeFault.TheVariants.{Failed, Memory}
 use Rattle.pv_steps.specs.Trees.{Files, places}
 use Rattle.pv_steps.specs.Steps.{Can, after}
-use Rattle.pv_steps.specs.Runs.{IsNotIdle, Ran}
+use Rattle.pv_steps.specs.Runs.{HasEffect, Ran}
 use Rattle.pv_steps.specs.Counting.{refused, faults_after}
 use Rattle.pv_steps.specs.Acting.{Tried, Acted, IsLast}
 use Rattle.pv_steps.proofs.RunLaws.{ran_none, ran_one, ran_then, ran_weaken, ran_end}
@@ -61,7 +61,7 @@ well = Ok tt
 pub record Asks (P : Files → Type 0) (Q : Step → Type 0) (t : Files) (s : Step) (now : ℕ) : Type 0 where
   pub start : P t
   pub can : Can (places t) s
-  pub busy : IsNotIdle t s now
+  pub busy : HasEffect t s now
   pub there : (u : Files) → u ≡ after t s now → P u
   pub gives : Q s
 

@@ -7,7 +7,7 @@ use Rattle.pv_steps.specs.declared.step.Step.{Step}
 use Rattle.pv_steps.specs.Trees.{Files, IsTree}
 use Rattle.pv_steps.specs.Steps.{after}
 use Rattle.pv_steps.proofs.TreeLaws.{tree_after}
-use Rattle.pv_steps.specs.Runs.{after_all, Legal, Along, Ran}
+use Rattle.pv_steps.specs.Runs.{after_all, IsEffective, Along, Ran}
 
 pub after_all-append : (t : Files) (xs ys : List Step) (now : ℕ) → after_all t (xs ++ ys) now ≡ after_all (after_all t xs now) ys now
 after_all-append t [] ys now = refl
@@ -57,7 +57,7 @@ module _ (P : Files → Type 0) (Q : Step → Type 0) (now : ℕ) where
   ran_none t h u k p same stated = record { steps = []; recorded = stated ∙ sym (append-nil h); reached = same; along = p; gives = tt }
 
   -- one step was done
-  pub ran_one : (t : Files) (h : List Step) (s : Step) (u : Files) (k : List Step) → P t → Legal t s now → P u → Q s → u ≡ after t s now → k ≡ h ++ s ∷ [] → Ran P Q now t h u k
+  pub ran_one : (t : Files) (h : List Step) (s : Step) (u : Files) (k : List Step) → P t → IsEffective t s now → P u → Q s → u ≡ after t s now → k ≡ h ++ s ∷ [] → Ran P Q now t h u k
   ran_one t h s u k p legal p' q is stated =
       record { steps = s ∷ []; recorded = stated; reached = is; along = (p, (legal, subst P is p')); gives = (q, tt) }
 

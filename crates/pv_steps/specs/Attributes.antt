@@ -6,45 +6,45 @@ use Rattle.pv_acl.specs.Ordered.{all_before_by, is_ordered_by, put_by}
 use Rattle.pv_path.specs.Names.{name_cmp}
 use Rattle.pv_steps.specs.declared.attr.Attr.{Attr}
 
--- the bytes of a name except for the first and the last
+-- The bytes of a name except the first and the last.
 abbrev pub inner_bytes : List ℕ → List ℕ
 inner_bytes name = drop 1 (take (length name - 1) name)
 
--- a name: 1 to 255 bytes without NUL, with a period that is neither first nor last, and not in the namespace
--- `system`, in which ACLs lie
+-- Whether an attribute may have this name. It has 1 to 255 bytes without NUL, and a period that is neither first nor
+-- last. It is not in the namespace `system`, where ACLs are kept.
 abbrev pub is_attr_name : List ℕ → Bool
 is_attr_name name =
     nat_le 1 (length name) && nat_le (length name) 255 && list_all (λ b. not (b == 0)) name
     && list_any (λ b. b == 46) (inner_bytes name) && not (starts_with nat_eq name (codes "system."))
 
--- whether numbers are bytes
+-- Whether these numbers are bytes.
 abbrev pub are_bytes : List ℕ → Bool
 are_bytes numbers = list_all (λ b. nat_lt b 256) numbers
 
--- a name with a value of at most 65536 bytes
+-- Whether an object may have an attribute with this name and value. The value has at most 65,536 bytes.
 abbrev pub is_attr : List ℕ → List ℕ → Bool
 is_attr name value = is_attr_name name && nat_le (length value) 65536 && are_bytes name && are_bytes value
 
--- whether the name of an attribute comes before that of another, byte by byte
+-- Whether the name of an attribute comes before that of another, by bytes.
 abbrev pub comes_before : Attr → Attr → Bool
 comes_before x y = is_lt (name_cmp x.name y.name)
 
--- whether each of some attributes comes before this one
+-- Whether each of some attributes comes before this one.
 abbrev pub all_before : List Attr → Attr → Bool
 all_before = all_before_by comes_before
 
--- whether attributes are in order, each name at most once
+-- Whether attributes are in order, with each name at most once.
 abbrev pub is_ordered : List Attr → Bool
 is_ordered = is_ordered_by comes_before
 
--- the attributes that an object may have: allowed, and in order
+-- Whether an object may have these attributes: each is allowed, and they are in order.
 abbrev pub are_attrs : List Attr → Bool
 are_attrs xs = list_all (λ x. is_attr x.name x.value) xs && is_ordered xs
 
--- an attribute put among others at its place, over one of its name
+-- An attribute put among others in order. It replaces one with the same name.
 abbrev pub put_attr : Attr → List Attr → List Attr
 put_attr = put_by comes_before
 
--- attributes put among others, one after another
+-- Attributes put among others, one after another.
 abbrev pub put_attrs : List Attr → List Attr → List Attr
 put_attrs given xs = fold (λ xs y. put_attr y xs) xs given

@@ -1,4 +1,4 @@
--- What reading can see of the object at a path, and which paths a step may bring, take away or rewrite (this
+-- What reading sees of the object at a path, and where a step may create, remove or rewrite an object (this
 -- project's own).
 use Rattle.std.specs.Prelude.{◌≡◌, ℕ, Bool, true, false, ◌||◌, List, [], ◌∷◌, Option, option_map, ⊤}
 use Rattle.pv_path.specs.Paths.{Path, same_path, is_prefix}
@@ -9,11 +9,12 @@ use Rattle.pv_steps.specs.declared.step.Step.TheVariants.{MakeDir, MakeFile, Mak
 use Rattle.pv_steps.specs.Trees.{Files, Places, places, IsEmptyIn}
 use Rattle.pv_steps.specs.Steps.{after}
 
--- kind and payload, where something stands
+-- The content of an object, if there is one: its kind and its payload.
 abbrev pub content_of : Option Object → Option (Kind × List ℕ)
 content_of o = option_map (λ (x : Object). (x.node.kind, x.payload)) o
 
--- whether a step may bring, take away or rewrite the object at a path
+-- Whether a step may create, remove or rewrite the object at a path. A Rename does so at and below both of its
+-- paths. Steps that set metadata do not.
 abbrev pub alters : Step → Path → Bool
 alters (MakeDir path) q = same_path path q
 alters (MakeFile path) q = same_path path q
@@ -31,13 +32,15 @@ alters (Rename from to) q = is_prefix from q || is_prefix to q
 alters (Unlink path) q = same_path path q
 alters (RemoveDir path) q = same_path path q
 
--- a step takes away the object at one of some paths
+-- A step removes the object at one of these paths: it is an Unlink or a RemoveDir. `inside` says which paths they
+-- are.
 abbrev pub Removes : (Path → Bool) → Step → Type 0
 Removes inside (Unlink path) = inside path ≡ true
 Removes inside (RemoveDir path) = inside path ≡ true
 Removes inside step = ⊥
 
--- what a step brings, takes away, rewrites or moves is at none of some paths, and what it moves has nothing below it
+-- A step does not create, remove, rewrite or move an object at one of these paths. If it is a Rename, nothing is
+-- below the path from which it moves. Steps that set metadata are always outside.
 abbrev pub IsOutside : (Path → Bool) → Places → Step → Type 0
 IsOutside inside t (MakeDir path) = inside path ≡ false
 IsOutside inside t (MakeFile path) = inside path ≡ false
@@ -50,7 +53,7 @@ IsOutside inside t (Unlink path) = inside path ≡ false
 IsOutside inside t (RemoveDir path) = inside path ≡ false
 IsOutside inside t step = ⊤
 
--- each step of a run is outside of some paths when it is done
+-- Each of these steps is outside of these paths in the tree in which it is done.
 abbrev pub AreOutside : (Path → Bool) → Files → List Step → ℕ → Type 0
 AreOutside inside t [] now = ⊤
 AreOutside inside t (step ∷ steps) now = IsOutside inside (places t) step × AreOutside inside (after t step now) steps now

@@ -4,12 +4,12 @@ use Rattle.pv_io.specs.Faults.{fault_after}
 use Rattle.pv_steps.specs.declared.tree.TreeFault.{TreeFault}
 use Rattle.pv_steps.specs.declared.tree.TreeFault.TheVariants.{Failed}
 
--- one where the tree refused a step, otherwise none
+-- How many steps were refused, by the answer of a call: one if the answer is `Failed`, otherwise none.
 abbrev pub refused : {A : Type 0} → Result A TreeFault → ℕ
 refused (Err Failed) = 1
 refused r = 0
 
--- a tree's count of faults after so many more
+-- The count of faults after so many more.
 abbrev pub faults_after : ℕ → ℕ → ℕ
 faults_after zero n = n
 faults_after (suc k) n = fault_after (faults_after k n)

@@ -1,6 +1,6 @@
--- The fifteen atomic steps: when each may be done, and what it leaves (mkdir(2), mknod(2), symlink(2), rename(2),
--- unlink(2), rmdir(2), chmod(2), chown(2), setxattr(2), chattr(1), utimensat(2); acl(5) for ACLs), timestamps included
--- (inode(7)).
+-- The fifteen atomic steps: when each can be done, and the tree that it leaves, with its timestamps (inode(7)). They
+-- are those of mkdir(2), mknod(2), symlink(2), rename(2), unlink(2), rmdir(2), chmod(2), chown(2), setxattr(2),
+-- chattr(1) and utimensat(2), and of acl(5) for ACLs.
 use Rattle.std.specs.Prelude.{◌≡◌, ◌≢◌, ◌⊎◌, ℕ, ◌^◌, ◌<◌, ◌≤◌, Bool, true, false, List, [], ◌∷◌, ◌++◌, map, Option, Some, None, nat_lt, option_map, if◌then◌else◌}
 use Rattle.std.specs.List.{list_all}
 use Rattle.std.specs.Option.{option_map_or}
@@ -19,33 +19,37 @@ use Rattle.pv_steps.specs.Trees.{Files, Places, places, kind_of, tabulate, IsPre
 
 -- ---- when a step may be done
 
--- room for a new object: the path is absent, and its parent is a directory
+-- A new object can be made at a path: nothing is there, and the path above is a directory.
 abbrev pub HasRoom : Places → Path → Type 0
 HasRoom t path = IsAbsentIn t path × IsKindIn Directory t (parent_of path)
 
--- present, and of another kind than the one given
+-- There is an object at a path, and it is of another kind than this.
 abbrev pub IsOther : Kind → Places → Path → Type 0
 IsOther kind t path = IsPresentIn t path × (kind_of (t path) ≢ Some kind)
 
--- a default part stands on a directory alone
+-- The object at a path may have this ACL: the ACL has no default part, or the object is a directory.
 abbrev pub TakesAcl : Places → Path → Acl → Type 0
 TakesAcl t path acl = (acl.default_part ≡ None) ⊎ IsKindIn Directory t path
 
--- what a Rename may put in the place of: nothing, a non-directory by a non-directory, an empty directory by a directory
+-- What a Rename may find at its destination: nothing, an object that is not a directory if what it moves is not one,
+-- or an empty directory if what it moves is a directory.
 pub data Yields (t : Places) (from to : Path) : Type 0 where
   absent : IsAbsentIn t to → Yields t from to
   objects : IsOther Directory t from → IsOther Directory t to → Yields t from to
   directories : IsKindIn Directory t from → IsKindIn Directory t to → IsEmptyIn t to → Yields t from to
 
--- the condition of a Rename
+-- A Rename can be done.
 pub record Movable (t : Places) (from to : Path) : Type 0 where
   pub present : IsPresentIn t from
+  -- The root is not moved.
   pub no_root : from ≢ []
+  -- The destination is neither the moved object nor below it.
   pub outside : is_prefix from to ≡ false
+  -- The path above the destination is a directory.
   pub parent : IsKindIn Directory t (parent_of to)
   pub yields : Yields t from to
 
--- the condition of each step
+-- Each step can be done in a tree under this condition.
 abbrev pub Can : Places → Step → Type 0
 Can t (MakeDir path) = HasRoom t path
 Can t (MakeFile path) = HasRoom t path
@@ -63,7 +67,7 @@ Can t (Rename from to) = Movable t from to
 Can t (Unlink path) = IsOther Directory t path
 Can t (RemoveDir path) = IsKindIn Directory t path × (IsEmptyIn t path × (path ≢ []))
 
--- what the types of a step's parts say: names are names, bytes are bytes, numbers fit
+-- The parts of a step are in range, as their types say: names are names, bytes are bytes, numbers have their size.
 abbrev pub StepFits : Step → Type 0
 StepFits (MakeDir path) = has_names path ≡ true
 StepFits (MakeFile path) = has_names path ≡ true
@@ -83,46 +87,48 @@ StepFits (RemoveDir path) = has_names path ≡ true
 
 -- ---- what a step leaves
 
--- at one path another object, or none
+-- The objects with this one at a path, or with none there.
 abbrev pub put_at : Path → Option Object → Places → Places
 put_at path o t = λ q. if same_path path q then o else t q
 
--- the object at one path changed, if there is one
+-- The objects with the one at a path changed, if there is one.
 abbrev pub on_at : Path → (Object → Object) → Places → Places
 on_at path f t = λ q. if same_path path q then option_map f (t q) else t q
 
--- the directory of a path has gained or lost a child
+-- The objects after the directory of a path has gained or lost a name.
 abbrev pub touched : ℕ → Path → Places → Places
 touched now path t = on_at (parent_of path) (modified now) t
 
--- a new object stands at a path, and its directory has gained a child
+-- The objects after a new one was made at a path. The directory above has gained a name.
 abbrev pub made : ℕ → Path → Object → Places → Places
 made now path o t = touched now path (put_at path (Some o) t)
 
--- nothing stands at a path any more, and its directory has lost a child
+-- The objects after the one at a path was removed. The directory above has lost a name.
 abbrev pub gone : ℕ → Path → Places → Places
 gone now path t = touched now path (put_at path None t)
 
--- what comes to lie at the moved object itself, and at each path below it
+-- What a Rename brings to its destination: the moved object with its change timestamp set, and everything below it
+-- as it was. The last argument is the path below the destination.
 abbrev pub carried : ℕ → Path → Places → Path → Option Object
 carried now from t [] = option_map (changed now) (t from)
 carried now from t (name ∷ rest) = t (from ++ name ∷ rest)
 
--- at a path that has this rest below the new place, what was carried there; elsewhere nothing is left at and below
--- the old place, and both directories are touched
+-- The object at a path after a Rename. At and below the destination it is what was brought there. At and below the
+-- old path there is none. Elsewhere it is as before, but the two directories above were changed.
 abbrev pub moved_at : ℕ → Path → Path → Places → Path → Option Path → Option Object
 moved_at now from to t q (Some rest) = carried now from t rest
 moved_at now from to t q None = if is_prefix from q then None else touched now from (touched now to t) q
 
--- what lay at and below one path now lies at and below another, in place of what stood there
+-- The objects after a Rename. What was at the destination is replaced.
 abbrev pub moved : ℕ → Path → Path → Places → Places
 moved now from to t = λ q. moved_at now from to t q (rest_under to q)
 
--- the kind of a block device, or else of a character device
+-- The kind of a block device, or of a character device.
 abbrev pub device_kind : Bool → Kind
 device_kind block = if block then BlockDevice else CharDevice
 
--- the object at each path after a step at a moment
+-- The object at each path after a step with the time `now`. A new directory has mode 0700, a new link 0777, and any
+-- other new object 0600.
 abbrev pub after_at : Places → Step → ℕ → Places
 after_at t (MakeDir path) now = made now path (fresh Directory 0o700 [] 0 0 now) t
 after_at t (MakeFile path) now = made now path (fresh File 0o600 [] 0 0 now) t
@@ -140,11 +146,11 @@ after_at t (Rename from to) now = moved now from to t
 after_at t (Unlink path) now = gone now path t
 after_at t (RemoveDir path) now = gone now path t
 
--- where a path comes to lie in a Rename
+-- The path of an object after a Rename.
 abbrev pub moved_path : Path → Path → Path → Path
 moved_path from to path = option_map_or (λ rest. to ++ rest) (rest_under from path) path
 
--- paths that hold all that a step leaves
+-- Paths among which are all paths of the tree after a step.
 abbrev pub paths_after : List Path → Step → List Path
 paths_after paths (MakeDir path) = path ∷ paths
 paths_after paths (MakeFile path) = path ∷ paths
@@ -154,6 +160,6 @@ paths_after paths (MakeLink path target) = path ∷ paths
 paths_after paths (Rename from to) = map (moved_path from to) paths ++ paths
 paths_after paths step = paths
 
--- the tree after a step at a moment; what it has at each path is `after_at`
+-- The tree after a step with the time `now`. Its object at each path is that of `after_at`.
 unfoldable pub after : Files → Step → ℕ → Files
 after files step now = tabulate (paths_after (fin.keys files) step) (after_at (places files) step now)

@@ -1,4 +1,5 @@
--- Trees: finite maps from paths to objects, in which each path lies in a directory (inode(7), path_resolution(7)).
+-- Trees: finite maps from paths to objects, in which the path above each object is a directory (inode(7),
+-- path_resolution(7)).
 use Rattle.std.specs.Prelude.{◌≡◌, ◌≢◌, ℕ, true, List, [], ◌∷◌, ◌++◌, Option, Some, None, is_some, option_map, option_and_then}
 use Rattle.std.specs.List.{filter_map}
 use Rattle.std.specs.FinMap as fin
@@ -9,89 +10,91 @@ use Rattle.pv_steps.specs.declared.node.Node.{Node}
 use Rattle.pv_steps.specs.declared.object.Object.{Object}
 use Rattle.pv_steps.specs.Objects.{IsObject}
 
--- a tree as a finite map
+-- A tree as a finite map.
 abbrev pub Files : Type 0
 Files = fin.FinMap path_cmp Object
 
--- a tree as the function that gives the object at each path
+-- A tree as the function that gives the object at each path.
 abbrev pub Places : Type 0
 Places = Path → Option Object
 
--- the object at each path of a tree
+-- The object at each path of a tree.
 abbrev pub places : Files → Places
 places files = fin.get files
 
 -- ---- the object at a path
 
--- the node at a path
+-- The node of the object at a path, if there is one: the object without its payload.
 abbrev pub node_at : Files → Path → Option Node
 node_at files path = option_map (λ o. o.node) (places files path)
 
--- the payload of the object at a path: the bytes of a file, the target of a link, otherwise no bytes
+-- The payload of the object at a path, if there is one: the bytes of a file, the target of a link, otherwise no
+-- bytes.
 abbrev pub payload_at : Files → Path → Option (List ℕ)
 payload_at files path = option_map (λ o. o.payload) (places files path)
 
--- the kind of the object at a path, if something does
+-- The kind of an object, if there is one.
 abbrev pub kind_of : Option Object → Option Kind
 kind_of o = option_map (λ o. o.node.kind) o
 
--- something stands at a path
+-- There is an object at a path.
 abbrev pub IsPresentIn : Places → Path → Type 0
 IsPresentIn t path = is_some (t path) ≡ true
 
--- nothing stands at a path
+-- There is no object at a path.
 abbrev pub IsAbsentIn : Places → Path → Type 0
 IsAbsentIn t path = t path ≡ None
 
--- an object of this kind stands at a path
+-- There is an object of this kind at a path.
 abbrev pub IsKindIn : Kind → Places → Path → Type 0
 IsKindIn kind t path = kind_of (t path) ≡ Some kind
 
--- in a tree an object of this kind stands at a path
+-- The same of a tree as a map: there is an object of this kind at a path.
 abbrev pub IsKind : Kind → Files → Path → Type 0
 IsKind kind files path = IsKindIn kind (places files) path
 
--- in a tree something stands at a path
+-- The same of a tree as a map: there is an object at a path.
 abbrev pub IsPresent : Files → Path → Type 0
 IsPresent files path = IsPresentIn (places files) path
 
--- no object stands in the directory at a path
+-- There is no object directly below a path.
 abbrev pub IsEmptyIn : Places → Path → Type 0
 IsEmptyIn t path = (name : List ℕ) → IsAbsentIn t (path ++ name ∷ [])
 
--- the name that a path of one name has
+-- The name of a path of one name.
 abbrev pub single : Path → Option (List ℕ)
 single [] = None
 single (name ∷ []) = Some name
 single (name ∷ other ∷ rest) = None
 
--- the name by which one path lies directly below another
+-- The name of the second path in the directory at the first, if it lies directly there.
 abbrev pub child_name : Path → Path → Option (List ℕ)
 child_name path q = option_and_then single (rest_under path q)
 
--- the names in a directory, in byte order
+-- The names in a directory, in byte order.
 abbrev pub names_below : Files → Path → List (List ℕ)
 names_below files path = filter_map (child_name path) (fin.keys files)
 
 -- ---- what makes a map a tree
 
--- the root is a directory, each other path lies in a directory, each path has names, and each object is whole
+-- A function is a tree: the root is a directory, and the path above each other object is a directory. Where there is
+-- an object, the components of the path are names, and the object is allowed in a tree.
 pub record IsTreeIn (t : Places) : Type 0 where
   pub root : IsKindIn Directory t []
   pub parents : (path : Path) → IsPresentIn t path → path ≢ [] → IsKindIn Directory t (parent_of path)
   pub names : (path : Path) → IsPresentIn t path → has_names path ≡ true
   pub objects : (path : Path) (o : Object) → t path ≡ Some o → IsObject o
 
--- a map that is a tree
+-- A map is a tree.
 abbrev pub IsTree : Files → Type 0
 IsTree files = IsTreeIn (places files)
 
 -- ---- trees made from a function
 
--- the entries that a function has at some paths
+-- The objects that a function gives at some paths, with these paths.
 abbrev pub entries_at : List Path → Places → List (Path × Object)
 entries_at paths t = filter_map (λ path. option_map (λ o. (path, o)) (t path)) paths
 
--- the tree of what a function has at some paths
+-- The map of the objects that a function gives at some paths.
 abbrev pub tabulate : List Path → Places → Files
 tabulate paths t = fin.from_entries (entries_at paths t)

@@ -1,4 +1,4 @@
-//! Extended attributes of objects, and lists of them.
+//! Extended attributes of objects, and ordered lists of them (xattr(7)).
 ghost use Rattle.std.specs.Prelude.{◌≡◌, ◌≢◌, ◌↔◌, ◌≤◌, true, not, ◌==◌, Some, [], ◌∷◌, ◌++◌, length, IsTrue, OnOk, OnErr, IfOk, slice_get};
 ghost use Rattle.std.specs.Bool.{OnTrue, OnFalse};
 ghost use Rattle.std.specs.List.{list_any, list_all, prefix_len};
@@ -9,17 +9,17 @@ use pv_path::{Bytes, RareList};
 use std::alloc::{AllocError, Global};
 use std::marker::Model;
 
-/// An extended attribute (xattr(7)).
+/// An extended attribute of an object: a name and a value (xattr(7)).
 #[derive(Clone, Drop, PartialEq, Eq)]
 pub struct Attr {
-    /// Its name: a namespace, a period, and what stands behind it.
+    /// The complete name, such as `user.comment`: a namespace, a period and the rest.
     pub name: Bytes,
-    /// Its value, at most 65536 bytes.
+    /// The value: any bytes, at most 65536 of them.
     pub value: Bytes,
 }
 
 impl Attr {
-    /// A copy of the attribute.
+    /// Copies the attribute. The only error is `AllocError`.
     pub fn copy(&self) -> Result<Attr, AllocError>
         ensures { IfOk result (λ attr. attr ≡ self.now) }
     {
@@ -27,30 +27,34 @@ impl Attr {
     }
 }
 
-/// Whether an extended attribute may have this name (xattr(7)). A name has 1 to 255 bytes without NUL, with a period
-/// that is neither first nor last. It is not in the namespace `system`, which holds ACLs. It takes no memory.
+/// Returns whether bytes can be the name of an extended attribute (xattr(7)).
+///
+/// A name has 1 to 255 bytes without NUL, and a period that is neither the first byte nor the last. Names in the
+/// namespace `system` are not allowed, because ACLs are kept there. The call does not allocate.
+///
+/// For example, `user.comment` is a name; `comment`, `user.` and `system.posix_acl_access` are not.
 pub fn is_attr_name(name: &[u8]) -> bool
     ensures { result ≡ is_attr_name name.now }
 {
     name.len() <= 255 && has_no_nul(name) && has_inner_period(name) && !name.starts_with(b"system.")
 }
 
-/// Whether an extended attribute may have this name and this value, which has at most 65536 bytes. It takes no
-/// memory.
+/// Returns whether an extended attribute can have this name and this value: `is_attr_name` holds, and the value has at
+/// most 65536 bytes. The call does not allocate.
 pub fn is_attr(name: &[u8], value: &[u8]) -> bool
     ensures { result ≡ is_attr name.now value.now }
 {
     is_attr_name(name) && value.len() <= 65_536
 }
 
-/// Whether no byte is NUL.
+/// Returns whether no byte is NUL.
 pub(crate) fn has_no_nul(bytes: &[u8]) -> bool
     ensures { result ≡ list_all (λ b. not (b == 0)) bytes.now }
 {
     bytes.iter().all(|b| *b != 0)
 }
 
-/// Whether a period is neither the first byte nor the last.
+/// Returns whether there is a period that is neither the first byte nor the last.
 fn has_inner_period(name: &[u8]) -> bool
     ensures { result ≡ list_any (λ b. b == 46) (inner_bytes name.now) }
 {
@@ -66,8 +70,9 @@ fn has_period(bytes: &[u8]) -> bool
     bytes.iter().any(|b| *b == b'.')
 }
 
-/// Extended attributes of one object in byte order of their names, each name once, each name and each value as
-/// allowed (xattr(7)). Clauses see the list.
+/// The extended attributes of one object, sorted by the bytes of their names, each name once (xattr(7)).
+///
+/// Each name and each value is allowed (`is_attr`). In contracts, a value is the list of attributes.
 #[derive(Clone, Drop)]
 pub struct AttrList {
     items: RareList<Attr>,
@@ -86,7 +91,7 @@ impl Model for AttrList {
 }
 
 impl AttrList {
-    /// No attributes. It takes no memory.
+    /// Returns an empty list. The call does not allocate.
     pub fn new(alloc: Global) -> AttrList
         ensures { result ≡ [] }
     {
@@ -95,7 +100,10 @@ impl AttrList {
         }
     }
 
-    /// Adds an attribute whose name comes after all others. After running out of memory the list is as before.
+    /// Appends an attribute. Its name must come after all names in the list, and its name and value must be allowed
+    /// (`is_attr`).
+    ///
+    /// If memory runs out, the list is as before.
     pub fn push(&mut self, item: Attr) -> Result<(), AllocError>
         requires allowed { is_attr item.name item.value ≡ true }
         requires last { all_before self.old item ≡ true }
@@ -106,7 +114,9 @@ impl AttrList {
         Ok(())
     }
 
-    /// Puts an attribute at its place, over one of the same name. After running out of memory the list is as before.
+    /// Sets an attribute: inserts it in order, or replaces the attribute that has the same name.
+    ///
+    /// The name and the value must be allowed (`is_attr`). If memory runs out, the list is as before.
     pub fn put(&mut self, item: Attr) -> Result<(), AllocError>
         requires { is_attr item.name item.value ≡ true }
         ensures ok { OnOk result (self.new ≡ put_attr item self.old) }
@@ -121,7 +131,9 @@ impl AttrList {
         Ok(())
     }
 
-    /// The list after all attributes of another are put into it, each at its place, over one of the same name.
+    /// Returns a copy of the list with all attributes of `given` set in it, as `put` sets them.
+    ///
+    /// An attribute of `given` replaces one of the same name. The only error is `AllocError`.
     pub fn with_all(&self, given: &AttrList) -> Result<AttrList, AllocError>
         ensures { IfOk result (λ all. all ≡ put_attrs given.now self.now) }
     {
@@ -132,21 +144,22 @@ impl AttrList {
         Ok(all)
     }
 
-    /// How many attributes there are. It takes no memory.
+    /// Returns the number of attributes. The call does not allocate.
     pub fn len(&self) -> usize
         ensures { result ≡ length self.now }
     {
         self.items.as_slice().len()
     }
 
-    /// The attribute at an index counted from 0, or nothing past the end. It takes no memory.
+    /// Returns the attribute at an index counted from 0, or `None` if the index is not below the length. The call does
+    /// not allocate.
     pub fn get(&self, i: usize) -> Option<&Attr>
         ensures { option_copied result ≡ slice_get self.now i }
     {
         self.items.as_slice().get(i)
     }
 
-    /// The attributes as a slice.
+    /// Returns the attributes as a slice, in byte order of their names. The call does not allocate.
     pub fn as_slice(&self) -> &[Attr]
         ensures value { result.now ≡ self.now }
         ensures allowed { are_attrs self.now ≡ true }
@@ -154,21 +167,21 @@ impl AttrList {
         self.items.as_slice()
     }
 
-    /// Whether there is no attribute. It takes no memory.
+    /// Returns whether there is no attribute. The call does not allocate.
     pub fn is_empty(&self) -> bool
         ensures { IsTrue result ↔ (self.now ≡ []) }
     {
         self.items.as_slice().is_empty()
     }
 
-    /// Whether two lists are the same. It takes no memory.
+    /// Returns whether two lists have the same names with the same values. The call does not allocate.
     pub fn is_same(&self, other: &AttrList) -> bool
         ensures { IsTrue result ↔ (self.now ≡ other.now) }
     {
         self.items.as_slice() == other.items.as_slice()
     }
 
-    /// A copy of the list.
+    /// Copies the list. The only error is `AllocError`.
     pub fn copy(&self) -> Result<AttrList, AllocError>
         ensures { IfOk result (λ copy. copy ≡ self.now) }
     {
@@ -176,7 +189,7 @@ impl AttrList {
     }
 }
 
-/// How many of the first attributes stand before one.
+/// Counts the attributes at the front of the list whose names come before the name of this one.
 fn place_of(items: &[Attr], item: &Attr) -> usize
     ensures place { result ≡ prefix_len (λ x. comes_before x item.now) items.now }
     ensures within { result ≤ length items.now }
@@ -184,7 +197,7 @@ fn place_of(items: &[Attr], item: &Attr) -> usize
     items.iter().take_while(|x| is_before(x, item)).count()
 }
 
-/// Whether the name of an attribute comes before that of another.
+/// Returns whether the name of an attribute comes before that of another.
 fn is_before(x: &Attr, y: &Attr) -> bool
     ensures { result ≡ comes_before x.now y.now }
 {
@@ -197,7 +210,7 @@ fn is_same_bytes(a: &Bytes, b: &Bytes) -> bool
     a.is_same(b)
 }
 
-/// Whether the attribute at a place has the same name.
+/// Returns whether there is an attribute at an index, and it has the same name as `item`.
 fn is_named_as(items: &[Attr], at: usize, item: &Attr) -> bool
     ensures yes { OnTrue result (option_map (λ x. x.name) (slice_get items.now at) ≡ Some item.now.name) }
     ensures no { OnFalse result (option_map (λ x. x.name) (slice_get items.now at) ≢ Some item.now.name) }

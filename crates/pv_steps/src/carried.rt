@@ -1,18 +1,19 @@
-//! How what was done over a tree ended.
+//! Whether everything that was to be done over a tree was carried out.
 ghost use Rattle.std.specs.Prelude.{◌≡◌, Bool, ◌||◌};
 ghost use Rattle.pv_steps.specs.Courses.{carried_of};
 
-/// The outcome of a phase: whether all could be carried out.
+/// The outcome of a phase, or of a part of it: whether everything was carried out.
 #[derive(Clone, Copy)]
 pub enum Carried {
-    /// All was carried out, or left what stood there; a refusal that does not count is none.
+    /// Everything was carried out. What was left as it was on purpose counts as carried out, and so does a refusal
+    /// that is to be ignored.
     Whole,
-    /// Something was refused, or could not be taken away.
+    /// Something was refused, or something that was to be removed could not be removed.
     NotCarriedOut,
 }
 
 impl Carried {
-    /// How what was done ended, by whether something was refused or could not be taken away.
+    /// Returns `NotCarriedOut` if something was refused or could not be removed, otherwise `Whole`.
     pub fn of(refused: bool) -> Carried
         ensures { result ≡ carried_of refused }
     {
@@ -23,7 +24,7 @@ impl Carried {
         }
     }
 
-    /// How what ended so, and then something more, ended.
+    /// Combines two outcomes: gives `NotCarriedOut` if at least one of them is `NotCarriedOut`, otherwise `Whole`.
     pub fn and(self, one: Carried) -> Carried
         ensures { (a b : Bool) → self ≡ carried_of a → one ≡ carried_of b → result ≡ carried_of (a || b) }
     {

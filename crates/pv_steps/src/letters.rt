@@ -1,4 +1,4 @@
-//! Attribute letters of files and directories.
+//! File attribute flags of files and directories, written as letters (chattr(1)).
 ghost use Rattle.std.specs.Prelude.{⊤, ◌≡◌, ◌<◌, ◌^◌, ◌↔◌, IsTrue, IfOk, [], ◌∷◌, codes, filter, option_map};
 ghost use Rattle.std.specs.Int.RustNames.{bit_and, bit_or};
 ghost use Rattle.pv_steps.specs.Letters.{letter_bit, has_letter, letters_of, without_letters, letters_after};
@@ -54,8 +54,11 @@ impl Flags for Letters {
     }
 }
 
-/// File attributes (chattr(1)): a set of the letters `aAcCdDeijPsStTu` of files and directories. Clauses see a number
-/// below 2^15, in which a letter's bit is that of its place in byte order.
+/// A set of file attribute flags, out of those with the letters `aAcCdDeijPsStTu` (chattr(1)). Only files and
+/// directories have such flags.
+///
+/// In contracts, a value is a number below 2^15. Bit 0 is that of the first letter in byte order, `A`, and bit 14
+/// that of the last one, `u`.
 #[derive(Clone, Copy)]
 pub struct LetterSet {
     flags: Letters,
@@ -73,26 +76,27 @@ impl Model for LetterSet {
     ghost inverse = { λ bits. record { flags = record { 0 = bits } } };
 }
 
-/// How letters change a set (chattr(1): `+`, `-` and `=`).
+/// How flags change a set: the operators `+`, `-` and `=` of chattr(1).
 #[derive(Clone, Copy, PartialEq, Eq)]
 pub enum LetterHow {
-    /// They are added to it.
+    /// They are added to the set (`+`).
     Add,
-    /// They are taken from it.
+    /// They are removed from the set (`-`).
     Take,
-    /// They take its place.
+    /// They replace the set (`=`).
     Put,
 }
 
 impl LetterSet {
-    /// No letters.
+    /// Returns the empty set.
     pub fn new() -> LetterSet
         ensures { result ≡ 0 }
     {
         LetterSet { flags: Letters(0) }
     }
 
-    /// The set of one letter, or nothing if the byte is no letter.
+    /// Returns the set of the one flag that has this letter, or `None` if the byte is not one of the letters
+    /// `aAcCdDeijPsStTu`.
     pub fn of(letter: u8) -> Option<LetterSet>
         ensures { result ≡ letter_bit letter }
     {
@@ -100,7 +104,8 @@ impl LetterSet {
         Some(LetterSet { flags })
     }
 
-    /// Whether a letter is in the set.
+    /// Returns whether the flag with this letter is in the set. For a byte that is not a letter of a flag the answer is
+    /// `false`.
     pub fn has(self, letter: u8) -> bool
         ensures { result ≡ has_letter self letter }
     {
@@ -110,14 +115,15 @@ impl LetterSet {
         }
     }
 
-    /// Whether no letter is in the set.
+    /// Returns whether no flag is in the set.
     pub fn is_empty(self) -> bool
         ensures { IsTrue result ↔ (self ≡ 0) }
     {
         self.flags.0 == 0
     }
 
-    /// The set as a number, in which a letter's bit is that of its place in byte order.
+    /// Returns the set as a number below 2^15: bit 0 stands for the first letter in byte order, `A`, and bit 14 for
+    /// the last one, `u`.
     pub fn bits(self) -> u16
         ensures value { result ≡ self }
         ensures range { self < 2 ^ 15 }
@@ -125,14 +131,14 @@ impl LetterSet {
         self.flags.0
     }
 
-    /// Whether two sets have the same letters.
+    /// Returns whether two sets have the same flags.
     pub fn is_same(self, other: LetterSet) -> bool
         ensures { IsTrue result ↔ (self ≡ other) }
     {
         self.flags.0 == other.flags.0
     }
 
-    /// The letters that one of two sets has.
+    /// Returns the flags that are in at least one of two sets.
     pub fn union(self, other: LetterSet) -> LetterSet
         ensures { result ≡ bit_or self other }
     {
@@ -141,7 +147,7 @@ impl LetterSet {
         }
     }
 
-    /// The letters of a set that another lacks.
+    /// Returns the flags of the set that are not in `other`.
     pub fn without(self, other: LetterSet) -> LetterSet
         ensures { result ≡ without_letters self other }
     {
@@ -150,7 +156,7 @@ impl LetterSet {
         }
     }
 
-    /// The set after letters are added to it, taken from it, or put in its place.
+    /// Returns the set that the operator `how` makes of this set and `letters`, as chattr(1) does.
     pub fn after(self, how: LetterHow, letters: LetterSet) -> LetterSet
         ensures { result ≡ letters_after how letters self }
     {
@@ -161,7 +167,7 @@ impl LetterSet {
         }
     }
 
-    /// The letters of a set, in byte order.
+    /// Returns the letters of the flags in the set, in byte order. The only error is `AllocError`.
     pub fn letters(self, alloc: Global) -> Result<Bytes, AllocError>
         ensures { IfOk result (λ letters. letters ≡ letters_of self) }
     {
@@ -169,7 +175,7 @@ impl LetterSet {
     }
 }
 
-/// Those of some letters that a set has.
+/// Returns those of the given letters whose flags are in the set.
 fn letters_in(alloc: Global, set: LetterSet, letters: &[u8]) -> Result<Vec<u8>, AllocError>
     ensures { IfOk result (λ chosen. chosen.items ≡ filter (has_letter set) letters.now) }
 {
@@ -180,7 +186,7 @@ fn letters_in(alloc: Global, set: LetterSet, letters: &[u8]) -> Result<Vec<u8>, 
         .collect(alloc)
 }
 
-/// The flag of a letter.
+/// Returns the flag with this letter, or `None` if there is none.
 fn flag_of(letter: u8) -> Option<Letters>
     ensures { option_map (λ s. s.0) result ≡ letter_bit letter }
 {

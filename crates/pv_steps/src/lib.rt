@@ -1,6 +1,8 @@
-//! Trees and steps: what a tree is and what a step does to it. On these definitions every run of the program rests. The
-//! crate has the trait of trees that can be walked and changed, and says what several things leave that are done one
-//! after the other.
+//! Trees and steps: what a file tree is, and what each atomic change (step) does to it. All runs of the program are
+//! described by these definitions.
+//!
+//! The crate has the trait `Tree` of trees that can be read and changed. It also says what several actions leave
+//! that are done one after the other.
 #![tactic(auto)]
 
 mod asking;

@@ -1,4 +1,4 @@
-//! Nodes: what a tree keeps of an object beside its payload.
+//! Nodes: everything that a tree keeps of an object besides its payload.
 ghost use Rattle.std.specs.Prelude.{◌≡◌, IfOk};
 ghost use Rattle.pv_acl.specs.Parts.{special_of};
 ghost use Rattle.pv_steps.specs.Objects.{is_directory};
@@ -8,7 +8,7 @@ use crate::letters::LetterSet;
 use pv_acl::Acl;
 use std::alloc::AllocError;
 
-/// What an object of a tree is (inode(7)).
+/// The file type of an object (inode(7)). There are no sockets.
 #[derive(Clone, Copy, Debug, PartialEq, Eq)]
 pub enum Kind {
     /// A directory.
@@ -26,7 +26,7 @@ pub enum Kind {
 }
 
 impl Kind {
-    /// Whether it is a directory. It takes no memory.
+    /// Returns whether the kind is `Directory`. The call does not allocate.
     pub fn is_directory(self) -> bool
         ensures { result ≡ is_directory self }
     {
@@ -34,44 +34,57 @@ impl Kind {
     }
 }
 
-/// The special bits of a mode: set-user-ID 4, set-group-ID 2, sticky 1 (inode(7)).
+/// Returns the special bits of a mode: 4 for set-user-ID, 2 for set-group-ID and 1 for the sticky bit, added up
+/// (inode(7)).
+///
+/// `mode` is the 12 bits of chmod(2). For example, `special_bits(0o4755)` is 4.
 pub fn special_bits(mode: u16) -> u8
     ensures { result ≡ special_of mode }
 {
     (mode / 512) as u8
 }
 
-/// The four timestamps of an object, in microseconds since 1970 (inode(7)).
+/// The four timestamps of an object, each in microseconds since 1970-01-01 UTC (inode(7)).
 #[derive(Clone, Copy)]
 pub struct Stamps {
+    /// The time of the last access (atime).
     pub access: u64,
+    /// The time at which the object was made (btime).
     pub birth: u64,
+    /// The time of the last change of the object, its metadata included (ctime).
     pub change: u64,
+    /// The time of the last change of the content (mtime).
     pub modify: u64,
 }
 
-/// What a tree keeps of an object beside its payload (inode(7)).
+/// Everything that a tree keeps of an object besides its payload (inode(7)).
 #[derive(Drop)]
 pub struct Node {
+    /// The file type.
     pub kind: Kind,
-    /// Set-user-ID 4, set-group-ID 2, sticky 1.
+    /// The special bits: 4 for set-user-ID, 2 for set-group-ID and 1 for the sticky bit, added up. The other bits
+    /// of the mode are in `acl`.
     pub special: u8,
-    /// The letters, which files and directories alone have (chattr(1)).
+    /// The file attribute flags, which only files and directories have (chattr(1)).
     pub letters: LetterSet,
+    /// The user ID of the owner.
     pub uid: u32,
+    /// The ID of the owning group.
     pub gid: u32,
-    /// A device's major number, otherwise 0.
+    /// The major number of a device; 0 for other kinds.
     pub major: u32,
-    /// A device's minor number, otherwise 0.
+    /// The minor number of a device; 0 for other kinds.
     pub minor: u32,
+    /// The permissions: the base entries of the mode with all named entries, the mask and the default ACL (acl(5)).
     pub acl: Acl,
-    /// The extended attributes, which a link has none of (xattr(7)).
+    /// The extended attributes (xattr(7)). A symbolic link has none.
     pub attrs: AttrList,
+    /// The four timestamps.
     pub stamps: Stamps,
 }
 
 impl Node {
-    /// A copy of the node.
+    /// Copies the node. The only error is `AllocError`.
     pub fn copy(&self) -> Result<Node, AllocError>
         ensures { IfOk result (λ node. node ≡ self.now) }
     {

@@ -1,4 +1,4 @@
-//! Objects of a tree: a node and its payload.
+//! Objects of a tree: a node together with its payload.
 ghost use Rattle.std.specs.Prelude.{◌≡◌, ◌↔◌, IsTrue, IfOk};
 ghost use Rattle.pv_steps.specs.Objects.{fresh, IsTarget};
 
@@ -9,16 +9,27 @@ use pv_acl::Acl;
 use pv_path::Bytes;
 use std::alloc::{AllocError, Global};
 
-/// An object of a tree: its node, and the bytes of a file or the target of a link, otherwise no bytes.
+/// An object of a tree: its node and its payload.
 #[derive(Drop)]
 pub struct Object {
+    /// Kind, owner, permissions, timestamps and everything else besides the payload.
     pub node: Node,
+    /// The bytes of a file, or the target of a link. For each other kind this is empty.
     pub payload: Bytes,
 }
 
 impl Object {
-    /// A new object that root owns, with a device's numbers, all four timestamps now, and neither extended attributes
-    /// nor letters. It takes no memory.
+    /// Returns a new object that belongs to root (user 0 and group 0), with all four timestamps at `now`. The call does
+    /// not allocate.
+    ///
+    /// The object has no extended attributes and no file attribute flags.
+    ///
+    /// - `mode`: the 12 bits of chmod(2), from which the special bits and the base entries of the ACL come. There
+    ///   are no named entries.
+    /// - `payload`: the bytes of a file, or the target of a link. For each other kind pass an empty list: a tree takes
+    ///   no other. The call does not check this.
+    /// - `major` and `minor`: the numbers of a device. For each other kind pass 0. The call does not check this.
+    /// - `now`: microseconds since 1970-01-01 UTC.
     pub fn fresh(
         alloc: Global,
         kind: Kind,
@@ -52,7 +63,7 @@ impl Object {
         }
     }
 
-    /// A copy of the object.
+    /// Copies the object. The only error is `AllocError`.
     pub fn copy(&self) -> Result<Object, AllocError>
         ensures { IfOk result (λ object. object ≡ self.now) }
     {
@@ -63,7 +74,8 @@ impl Object {
     }
 }
 
-/// Whether bytes can be the target of a link: 1 to 4095 of them without NUL (symlink(7)). It takes no memory.
+/// Returns whether bytes can be the target of a symbolic link: 1 to 4095 bytes without NUL (symlink(7)). The call does
+/// not allocate.
 pub fn is_target(bytes: &[u8]) -> bool
     ensures { IsTrue result ↔ IsTarget bytes.now }
 {

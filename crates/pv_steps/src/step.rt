@@ -1,4 +1,4 @@
-//! Steps: the atomic changes of a tree.
+//! Steps: the atomic changes of a tree, each of which does what one system call does.
 ghost use Rattle.std.specs.Prelude.{◌≡◌, IfOk};
 
 use crate::attr::AttrList;
@@ -7,89 +7,103 @@ use pv_acl::Acl;
 use pv_path::{Bytes, TreePath};
 use std::alloc::AllocError;
 
-/// One atomic change of a tree. The definitions `Can` and `after` say when it may be done and what it leaves.
+/// One atomic change of a tree, as one system call makes it.
+///
+/// The definition `Can` says when a step is possible, and `after` says what it leaves (both in specs/Steps.antt). No
+/// step follows a link. Each step sets the change timestamp of the objects that it changes.
+///
+/// A step that makes an object, removes one or moves one also sets the modification and change timestamps of the
+/// directories that gain or lose a name.
 #[derive(Clone, Drop)]
 pub enum Step {
-    /// An empty directory with mode 0700 that root owns comes to stand at an absent path (mkdir(2)).
+    /// Makes an empty directory with mode 0700 that belongs to root, at an absent path in a directory (mkdir(2)).
     MakeDir {
         path: TreePath,
     },
-    /// An empty file with mode 0600 that root owns comes to stand at an absent path (mknod(2)).
+    /// Makes an empty file with mode 0600 that belongs to root, at an absent path in a directory (mknod(2)).
     MakeFile {
         path: TreePath,
     },
-    /// A named pipe with mode 0600 that root owns comes to stand at an absent path (mknod(2)).
+    /// Makes a named pipe with mode 0600 that belongs to root, at an absent path in a directory (mknod(2)).
     MakeFifo {
         path: TreePath,
     },
-    /// A block device, or else a character device, with mode 0600 that root owns comes to stand at an absent
-    /// path (mknod(2)).
+    /// Makes a device with mode 0600 that belongs to root, at an absent path in a directory (mknod(2)): a block
+    /// device if `block`, otherwise a character device.
     MakeDevice {
         path: TreePath,
         block: bool,
         major: u32,
         minor: u32,
     },
-    /// A symbolic link that root owns comes to stand at an absent path (symlink(2)).
+    /// Makes a symbolic link that belongs to root, at an absent path in a directory (symlink(2)). The target has 1
+    /// to 4095 bytes without NUL.
     MakeLink {
         path: TreePath,
         target: Bytes,
     },
-    /// A file gets a new content.
+    /// Replaces the bytes of the file at a path.
     Write {
         path: TreePath,
         content: Bytes,
     },
-    /// The special bits and the base entries of an object that is not a link change. Named entries and the default part
-    /// stay, and unlike in chmod(2) the mask stays too.
+    /// Sets the special bits and the base entries of the ACL of an object that is not a link. `mode` is the 12 bits
+    /// of chmod(2).
+    ///
+    /// Named entries, the mask and the default ACL stay as they are. In this the step differs from chmod(2), which
+    /// changes the mask.
     SetMode {
         path: TreePath,
         mode: u16,
     },
-    /// The owner and the owning group change (chown(2)).
+    /// Sets the user ID and the group ID of the object at a path (lchown(2)). Both are at most 4294967294.
     SetOwner {
         path: TreePath,
         uid: u32,
         gid: u32,
     },
-    /// The whole ACL of an object that is not a link changes. Only a directory has a default part (acl(5)).
+    /// Replaces the whole ACL of an object that is not a link. Only a directory can have a default ACL (acl(5)).
     SetAcl {
         path: TreePath,
         acl: Acl,
     },
-    /// The whole list of extended attributes of an object that is not a link changes (setxattr(2)).
+    /// Replaces all extended attributes of an object that is not a link (setxattr(2)).
     SetAttrs {
         path: TreePath,
         attrs: AttrList,
     },
-    /// The whole set of letters of a file or a directory changes (chattr(1)).
+    /// Replaces all file attribute flags of a file or a directory (chattr(1)).
     SetLetters {
         path: TreePath,
         letters: LetterSet,
     },
-    /// The timestamps of access and modification change (utimensat(2)).
+    /// Sets the timestamps of the last access and of the last modification, in microseconds since 1970-01-01 UTC
+    /// (utimensat(2)).
     SetStamps {
         path: TreePath,
         access: u64,
         modify: u64,
     },
-    /// The object at a path is renamed to another path, with all below it, in place of the object there (rename(2)).
+    /// Moves the object at `from`, with everything below it, to `to` (rename(2)).
+    ///
+    /// `from` is present and not the root, `to` is not at or below `from`, and the parent of `to` is a directory. A
+    /// directory may replace an empty directory, and any other object may replace one that is not a directory.
     Rename {
         from: TreePath,
         to: TreePath,
     },
-    /// An object that is not a directory is removed (unlink(2)).
+    /// Removes the object at a path, which must not be a directory (unlink(2)).
     Unlink {
         path: TreePath,
     },
-    /// An empty directory goes (rmdir(2)).
+    /// Removes the empty directory at a path, which must not be the root (rmdir(2)).
     RemoveDir {
         path: TreePath,
     },
 }
 
 impl Step {
-    /// A copy of the step.
+    /// Copies the step. The only error is `AllocError`.
     pub fn copy(&self) -> Result<Step, AllocError>
         ensures { IfOk result (λ step. step ≡ self.now) }
     {

@@ -1,4 +1,4 @@
-//! Trees that can be walked and changed: what a caller may ask of one, and why a step is not done.
+//! Trees that can be read and changed: what a caller may ask of one, and why a step is not done.
 ghost use Rattle.std.specs.Prelude.{◌≡◌, ℕ, ◌∷◌, ◌++◌, [], ◌≤◌, List, length, Some, IfOk, OnOk, OnErr, IsErrOf};
 ghost use Rattle.std.specs.Option.{option_copied};
 ghost use Rattle.pv_steps.specs.declared.step.Step.{Step as StepValue};
@@ -17,10 +17,10 @@ use thiserror::Error;
 /// Why a step was not done.
 #[derive(Clone, Copy, Debug, PartialEq, Eq, Error)]
 pub enum TreeFault {
-    /// The tree refused or could not do it, and counted a fault.
+    /// The tree could not do the step, or refused it. Its count of faults rose by one, up to the largest number.
     #[error("Failed")]
     Failed,
-    /// Memory ran out.
+    /// Memory ran out. The count of faults did not change.
     #[error("Memory")]
     Memory,
 }
@@ -41,43 +41,57 @@ impl<T: Drop> From<AllocFailed<T>> for TreeFault {
     }
 }
 
-/// A tree that can be walked and changed step by step. It tells its state, the list of the steps done since
-/// it was made, and a count of faults that never falls.
+/// A file tree that can be read, and changed step by step.
+///
+/// In contracts, a tree has a state, which is the object at each path. It also has the list of the steps recorded
+/// since it was made, and a count of faults that never falls.
 pub trait Tree {
+    /// The state: the object at each path.
     ghost state: { Self → Files };
 
+    /// The steps recorded since the tree was made, in order.
     ghost steps: { Self → List StepValue };
 
+    /// The count of faults. A step that the tree refuses adds one, up to the largest number.
     ghost faults: { Self → ℕ };
 
-    /// How many steps were done when it last refused one.
+    /// The number of the steps that were recorded when the tree last refused one.
     ghost refused_at: { Self → ℕ };
 
-    /// How calls move a tree: what holds between a tree and what it is after any number of them.
+    /// Relates a tree to the same tree after any number of calls.
     ghost reaches: { Self → Self → Type 0 };
 
-    /// The node at a path, or nothing if the path is absent. It takes no memory.
+    /// Returns the node of the object at a path, or `None` if the path is absent. The call does not follow links, and
+    /// does not allocate.
     fn look(&self, path: &TreePath) -> Option<&Node>
         ensures node { option_copied result ≡ node_at (state self.now) path.now }
         ensures tree { IsTree (state self.now) };
 
-    /// The names in a directory, in byte order.
+    /// Returns the names in the directory at a path, in byte order, without `.` and `..`. At the path there must be a
+    /// directory. The only error is `AllocError`.
     fn list(&self, alloc: Global, path: &TreePath) -> Result<NameList, AllocError>
         requires { IsKind Directory (state self.now) path.now }
         ensures names { IfOk result (λ names. names ≡ names_below (state self.now) path.now) };
 
-    /// The bytes of a file. It takes no memory.
+    /// Returns the bytes of the file at a path, at which there must be a regular file. The call does not allocate.
     fn bytes(&self, path: &TreePath) -> &[u8]
         requires { IsKind File (state self.now) path.now }
         ensures content { Some result.now ≡ payload_at (state self.now) path.now };
 
-    /// The target of a link. It takes no memory.
+    /// Returns the target of the link at a path, at which there must be a symbolic link. The call does not allocate.
     fn target(&self, path: &TreePath) -> &[u8]
         requires { IsKind Link (state self.now) path.now }
         ensures target { Some result.now ≡ payload_at (state self.now) path.now };
 
-    /// Does one step at the moment `now`, in microseconds since 1970. After any fault the state and the
-    /// list of steps are as before.
+    /// Does one step, which must be possible on this tree (definition `Can`), and adds it to the list of recorded
+    /// steps.
+    ///
+    /// `now` is the time of the step in microseconds since 1970-01-01 UTC: timestamps that the step changes get
+    /// this value.
+    ///
+    /// Returns `Failed` if the tree refuses the step although it is possible, for example at a step limit, or because a
+    /// host cannot carry it out. Then the count of faults rises by one, up to the largest number. Returns `Memory` if
+    /// memory ran out. After an error, the state and the list of steps are as before.
     fn step(&mut self, step: &Step, now: u64) -> Result<(), TreeFault>
         requires { Can (places (state self.old)) step.now }
         ensures state { OnOk result (state self.new ≡ after (state self.old) step.now now) }
@@ -96,8 +110,10 @@ pub trait Tree {
         // A step that it refuses comes after all that were done.
         ensures last { IsErrOf result Failed → refused_at self.new ≡ length (steps self.new) };
 
+    /// A tree is related to itself.
     ghost reaches_self: { (a : Self) → reaches a a };
 
+    /// The relation holds over two groups of calls if it holds over each of them.
     ghost reaches_on: { (a b c : Self) → reaches a b → reaches b c → reaches a c };
 
     // Its state is a tree.

@@ -19,7 +19,7 @@ use Rattle.pv_tree.specs.declared.slot.Slot.{Slot}
 use Rattle.pv_path.specs.Names.{name_cmp}
 use Rattle.pv_tree.specs.Children.{IsSorted}
 use Rattle.pv_tree.specs.Edges.{Edges, led}
-use Rattle.pv_tree.specs.Slots.{child_in, object_in, number_in, places_in, below, entries_below, entries_in, files_of, IsForest}
+use Rattle.pv_tree.specs.Slots.{child_in, object_in, number_in, places_in, below, entries_below, entries_in, files_of, IsForest, object_of}
 use Rattle.pv_tree.proofs.EdgeLaws.{Once, led-on, no_longer}
 use Rattle.pv_path.proofs.Tests.{equal_of, less_of-T, each_T, both_T}
 
@@ -37,10 +37,6 @@ cmp_less n m p q e = ap (λ o. ordering_then o (path_cmp p q)) e
 below_same : (n : List ℕ) (p : Path) (es : Entries) → below_all path_cmp (n ∷ p) (map (below n) es) ≡ below_all path_cmp p es
 below_same n p [] = refl
 below_same n p (e ∷ es) = ap (λ o. is_lt o && below_all path_cmp (n ∷ p) (map (below n) es)) (cmp_below n p e.0) ∙ ap (λ b. is_lt (path_cmp p e.0) && b) (below_same n p es)
-
-sorted_same : (n : List ℕ) (es : Entries) → is_sorted path_cmp (map (below n) es) ≡ is_sorted path_cmp es
-sorted_same n [] = refl
-sorted_same n (e ∷ es) = ap (λ b. b && is_sorted path_cmp (map (below n) es)) (below_same n e.0 es) ∙ ap (λ b. below_all path_cmp e.0 es && b) (sorted_same n es)
 
 below_less : (n m : List ℕ) (p : Path) (es : Entries) → name_cmp n m ≡ Less → T (below_all path_cmp (n ∷ p) (map (below m) es))
 below_less n m p [] e = tt
@@ -82,11 +78,11 @@ module _ (slots : List Slot) where
   sorted_in (suc depth) i = by (slice_get slots i) (sorted_in depth)
     where
       by : (o : Option Slot) → ((k : ℕ) → T (is_sorted path_cmp (entries_in depth slots k)))
-          → T (is_sorted path_cmp (option_map_or (λ s. ([], s.object) ∷ entries_below (entries_in depth slots) (fin.entries s.children)) o []))
+          → T (is_sorted path_cmp (option_map_or (λ s. ([], object_of s) ∷ entries_below (entries_in depth slots) (fin.entries s.content.children)) o []))
       by None each = tt
       by (Some s) each =
-          both_T _ _ (root_first (entries_in depth slots) (fin.entries s.children))
-          (sorted_below (entries_in depth slots) each (fin.entries s.children) (fin.entries_sorted s.children))
+          both_T _ _ (root_first (entries_in depth slots) (fin.entries s.content.children))
+          (sorted_below (entries_in depth slots) each (fin.entries s.content.children) (fin.entries_sorted s.content.children))
 
 -- ---- what is found among them
 
@@ -139,8 +135,8 @@ module _ (slots : List Slot) where
   abbrev stands : ℕ → Path → Option Object
   stands i q = option_and_then (object_in slots) (led (child_in slots) i q)
 
-  child_found : (i : ℕ) (n : List ℕ) (s : Slot) → slice_get slots i ≡ Some s → child_in slots i n ≡ find name_cmp n (fin.entries s.children)
-  child_found i n s e = ap (option_and_then (λ (x : Slot). fin.get x.children n)) e ∙ fin.get-entries s.children n
+  child_found : (i : ℕ) (n : List ℕ) (s : Slot) → slice_get slots i ≡ Some s → child_in slots i n ≡ find name_cmp n (fin.entries s.content.children)
+  child_found i n s e = ap (option_and_then (λ (x : Slot). fin.get x.content.children n)) e ∙ fin.get-entries s.content.children n
 
   pub found_in : (depth i : ℕ) (q : Path) → length q < depth → find path_cmp q (entries_in depth slots i) ≡ stands i q
   found_in zero i q h = absurd (omega arith)
@@ -148,14 +144,14 @@ module _ (slots : List Slot) where
     where
       by : (o : Option Slot) → slice_get slots i ≡ o → (q : Path) → length q < suc depth
           → ((k : ℕ) (p : Path) → length p < depth → find path_cmp p (entries_in depth slots k) ≡ stands k p)
-          → find path_cmp q (option_map_or (λ s. ([], s.object) ∷ entries_below (entries_in depth slots) (fin.entries s.children)) o []) ≡ stands i q
-      by None e [] h rest = sym (ap (option_map (λ (x : Slot). x.object)) e)
+          → find path_cmp q (option_map_or (λ s. ([], object_of s) ∷ entries_below (entries_in depth slots) (fin.entries s.content.children)) o []) ≡ stands i q
+      by None e [] h rest = sym (ap (option_map object_of) e)
       by None e (n ∷ p) h rest =
-          sym (ap (λ v. option_and_then (object_in slots) (option_and_then (λ k. led (child_in slots) k p) (option_and_then (λ (x : Slot). fin.get x.children n) v))) e)
-      by (Some s) e [] h rest = sym (ap (option_map (λ (x : Slot). x.object)) e)
+          sym (ap (λ v. option_and_then (object_in slots) (option_and_then (λ k. led (child_in slots) k p) (option_and_then (λ (x : Slot). fin.get x.content.children n) v))) e)
+      by (Some s) e [] h rest = sym (ap (option_map object_of) e)
       by (Some s) e (n ∷ p) h rest =
-          find_below (entries_in depth slots) n p (fin.entries s.children) (fin.entries_sorted s.children)
-          ∙ step (find name_cmp n (fin.entries s.children))
+          find_below (entries_in depth slots) n p (fin.entries s.content.children) (fin.entries_sorted s.content.children)
+          ∙ step (find name_cmp n (fin.entries s.content.children))
           ∙ sym (ap (λ v. option_and_then (object_in slots) (option_and_then (λ k. led (child_in slots) k p) v)) (child_found i n s e))
         where
           step : (v : Option ℕ) → option_and_then (λ k. find path_cmp p (entries_in depth slots k)) v ≡ option_and_then (object_in slots) (option_and_then (λ k. led (child_in slots) k p) v)
@@ -167,11 +163,11 @@ module _ (slots : List Slot) where
   missed_in (suc depth) i q h = by (slice_get slots i) q h (missed_in depth)
     where
       by : (o : Option Slot) (q : Path) → suc depth ≤ length q → ((k : ℕ) (p : Path) → depth ≤ length p → find path_cmp p (entries_in depth slots k) ≡ None)
-          → find path_cmp q (option_map_or (λ s. ([], s.object) ∷ entries_below (entries_in depth slots) (fin.entries s.children)) o []) ≡ None
+          → find path_cmp q (option_map_or (λ s. ([], object_of s) ∷ entries_below (entries_in depth slots) (fin.entries s.content.children)) o []) ≡ None
       by None q h rest = refl
       by (Some s) [] h rest = absurd (omega arith)
       by (Some s) (n ∷ p) h rest =
-          find_below (entries_in depth slots) n p (fin.entries s.children) (fin.entries_sorted s.children) ∙ step (find name_cmp n (fin.entries s.children))
+          find_below (entries_in depth slots) n p (fin.entries s.content.children) (fin.entries_sorted s.content.children) ∙ step (find name_cmp n (fin.entries s.content.children))
         where
           step : (v : Option ℕ) → option_and_then (λ k. find path_cmp p (entries_in depth slots k)) v ≡ None
           step None = refl

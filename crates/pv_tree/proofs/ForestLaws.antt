@@ -127,9 +127,6 @@ module _ (s new : List Slot) (edges : child_in new ≡ child_in s) (len : length
   pub unreached_same : (i : ℕ) → IsUnreached s i → IsUnreached new i
   unreached_same i apart path is = apart path (sym (ap (λ (g : Edges). led g 0 path) edges) ∙ is)
 
-  pub free_same : (free : List ℕ) → AreFree s free → AreFree new free
-  free_same free are = free_still s new free unreached_same (omega arith) are
-
   -- an object changed
   pub change_places : (k : ℕ) (f : Object → Object) (path : Path) → IsForest s → number_in s path ≡ Some k → IsChanged k f (object_in s) (object_in new)
       → places_in new ≡ on_at path f (places_in s)
@@ -275,10 +272,6 @@ module _ (s s1 s2 s3 s4 new : List Slot) (now k k' j : ℕ) (n n' : List ℕ) (d
     (touch1 : IsChanged k' (modified now) (object_in s2) (object_in s3)) (same3 : child_in s3 ≡ child_in s2) (len3 : length s3 ≡ length s2)
     (touch2 : IsChanged k (modified now) (object_in s3) (object_in s4)) (same4 : child_in s4 ≡ child_in s3) (len4 : length s4 ≡ length s3)
     (renew : IsChanged j (changed now) (object_in s4) (object_in new)) (same5 : child_in new ≡ child_in s4) (len5 : length new ≡ length s4) where
-  -- the old edges without the one that goes
-  lessened : Edges
-  lessened = without_edge k n (child_in s)
-
   less_first : IsSet k n None (child_in s) (without_edge k n (child_in s))
   less_first = without_set k n (child_in s)
 

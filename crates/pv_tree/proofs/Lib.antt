@@ -1,6 +1,6 @@
 pub mod BinarySearch
 pub mod Names
-pub mod KeyLaws
+pub mod HeadLaws
 pub mod EdgeLaws
 pub mod PlaceLaws
 pub mod SlotLaws

@@ -9,12 +9,11 @@ use Rattle.std.specs.Cmp.Lexicographic.{nat_list_cmp_total}
 use Rattle.std.specs.declared.cmp.Ordering.{Ordering}
 use Rattle.std.specs.declared.cmp.Ordering.TheVariants.{Less, Equal, Greater}
 use Rattle.pv_path.proofs.PathLaws.{name_cmp-refl, name_cmp-exact}
-use Rattle.pv_steps.specs.declared.object.Object.{Object}
 use Rattle.pv_tree.specs.declared.slot.Slot.{Slot}
 use Rattle.pv_path.specs.Names.{name_cmp}
 use Rattle.pv_tree.specs.Children.{Children}
-use Rattle.pv_tree.specs.Edges.{IsSet, IsChanged, IsPlaced}
-use Rattle.pv_tree.specs.Slots.{child_in, object_in, next_number}
+use Rattle.pv_tree.specs.Edges.{IsSet, IsPlaced}
+use Rattle.pv_tree.specs.Slots.{child_in, object_in, next_number, object_of}
 
 -- ---- items of lists
 
@@ -70,96 +69,81 @@ module _ (slots : List Slot) (k : ℕ) (s new : Slot) (within : k < length slots
   there : slice_get slots k ≡ Some s
   there = slice_get-get_or slots k s within ∙ ap Some (sym at)
 
-  pub set_child : (name : List ℕ) (to : Option ℕ) → fin.get new.children name ≡ to → ((m : List ℕ) → m ≢ name → fin.get new.children m ≡ fin.get s.children m)
+  pub set_child : (name : List ℕ) (to : Option ℕ) → fin.get new.content.children name ≡ to → ((m : List ℕ) → m ≢ name → fin.get new.content.children m ≡ fin.get s.content.children m)
       → IsSet k name to (child_in slots) (child_in (set slots k new))
   set_child name to here other = record {
-    here = ap (option_and_then (λ (x : Slot). fin.get x.children name)) (slice_get-set_same slots k new within) ∙ here;
+    here = ap (option_and_then (λ (x : Slot). fin.get x.content.children name)) (slice_get-set_same slots k new within) ∙ here;
     else = λ i m apart. by i m apart (cases_eq i k);
   }
     where
       by : (i : ℕ) (m : List ℕ) → ((i ≡ k) × (m ≡ name) → ⊥) → (i ≡ k) ⊎ (i ≢ k) → child_in (set slots k new) i m ≡ child_in slots i m
       by i m apart (inl same) =
           ap (λ v. child_in (set slots k new) v m) same
-          ∙ ap (option_and_then (λ (x : Slot). fin.get x.children m)) (slice_get-set_same slots k new within)
+          ∙ ap (option_and_then (λ (x : Slot). fin.get x.content.children m)) (slice_get-set_same slots k new within)
           ∙ other m (λ e. apart (same, e))
-          ∙ sym (ap (λ v. child_in slots v m) same ∙ ap (option_and_then (λ (x : Slot). fin.get x.children m)) there)
-      by i m apart (inr differ) = ap (option_and_then (λ (x : Slot). fin.get x.children m)) (slice_get-set_other slots k i new differ)
+          ∙ sym (ap (λ v. child_in slots v m) same ∙ ap (option_and_then (λ (x : Slot). fin.get x.content.children m)) there)
+      by i m apart (inr differ) = ap (option_and_then (λ (x : Slot). fin.get x.content.children m)) (slice_get-set_other slots k i new differ)
 
-  pub set_put : (name : List ℕ) (child : ℕ) → new.children ≡ fin.insert s.children name child → IsSet k name (Some child) (child_in slots) (child_in (set slots k new))
+  pub set_put : (name : List ℕ) (child : ℕ) → new.content.children ≡ fin.insert s.content.children name child → IsSet k name (Some child) (child_in slots) (child_in (set slots k new))
   set_put name child is = set_child name (Some child)
-      (ap (λ (c : Children). fin.get c name) is ∙ get_put_same s.children name child)
-      (λ m other. ap (λ (c : Children). fin.get c m) is ∙ get_put_other s.children name m child other)
+      (ap (λ (c : Children). fin.get c name) is ∙ get_put_same s.content.children name child)
+      (λ m other. ap (λ (c : Children). fin.get c m) is ∙ get_put_other s.content.children name m child other)
 
-  pub set_remove : (name : List ℕ) → new.children ≡ fin.remove s.children name → IsSet k name None (child_in slots) (child_in (set slots k new))
+  pub set_remove : (name : List ℕ) → new.content.children ≡ fin.remove s.content.children name → IsSet k name None (child_in slots) (child_in (set slots k new))
   set_remove name is = set_child name None
-      (ap (λ (c : Children). fin.get c name) is ∙ get_remove_same s.children name)
-      (λ m other. ap (λ (c : Children). fin.get c m) is ∙ get_remove_other s.children name m other)
+      (ap (λ (c : Children). fin.get c name) is ∙ get_remove_same s.content.children name)
+      (λ m other. ap (λ (c : Children). fin.get c m) is ∙ get_remove_other s.content.children name m other)
 
-  pub old_child : (name : List ℕ) → fin.get s.children name ≡ child_in slots k name
-  old_child name = sym (ap (option_and_then (λ (x : Slot). fin.get x.children name)) there)
+  pub old_child : (name : List ℕ) → fin.get s.content.children name ≡ child_in slots k name
+  old_child name = sym (ap (option_and_then (λ (x : Slot). fin.get x.content.children name)) there)
 
-  pub set_object : (f : Object → Object) → new.object ≡ f s.object → IsChanged k f (object_in slots) (object_in (set slots k new))
-  set_object f is = record {
-    here = ap (option_map (λ (x : Slot). x.object)) (slice_get-set_same slots k new within) ∙ ap Some is ∙ sym (ap (λ v. option_map f (option_map (λ (x : Slot). x.object) v)) there);
-    else = λ i other. ap (option_map (λ (x : Slot). x.object)) (slice_get-set_other slots k i new other);
-  }
-
-  pub same_objects : new.object ≡ s.object → object_in (set slots k new) ≡ object_in slots
+  pub same_objects : object_of new ≡ object_of s → object_in (set slots k new) ≡ object_in slots
   same_objects is = λ j i. at_number i (cases_eq i k) j
     where
       at_number : (i : ℕ) → (i ≡ k) ⊎ (i ≢ k) → object_in (set slots k new) i ≡ object_in slots i
       at_number i (inl same) =
-          ap (object_in (set slots k new)) same ∙ ap (option_map (λ (x : Slot). x.object)) (slice_get-set_same slots k new within) ∙ ap Some is
-          ∙ sym (ap (object_in slots) same ∙ ap (option_map (λ (x : Slot). x.object)) there)
-      at_number i (inr other) = ap (option_map (λ (x : Slot). x.object)) (slice_get-set_other slots k i new other)
-
-  pub same_edges : new.children ≡ s.children → child_in (set slots k new) ≡ child_in slots
-  same_edges is = λ j i name. at_number i name (cases_eq i k) j
-    where
-      at_number : (i : ℕ) (name : List ℕ) → (i ≡ k) ⊎ (i ≢ k) → child_in (set slots k new) i name ≡ child_in slots i name
-      at_number i name (inl same) =
-          ap (λ v. child_in (set slots k new) v name) same ∙ ap (option_and_then (λ (x : Slot). fin.get x.children name)) (slice_get-set_same slots k new within) ∙ ap (λ (c : Children). fin.get c name) is
-          ∙ sym (ap (λ v. child_in slots v name) same ∙ ap (option_and_then (λ (x : Slot). fin.get x.children name)) there)
-      at_number i name (inr other) = ap (option_and_then (λ (x : Slot). fin.get x.children name)) (slice_get-set_other slots k i new other)
+          ap (object_in (set slots k new)) same ∙ ap (option_map object_of) (slice_get-set_same slots k new within) ∙ ap Some is
+          ∙ sym (ap (object_in slots) same ∙ ap (option_map object_of) there)
+      at_number i (inr other) = ap (option_map object_of) (slice_get-set_other slots k i new other)
 
 -- ---- a slot placed
 
-pub placed_free : (slots : List Slot) (free rest : List ℕ) (k : ℕ) (new : Slot) → k < length slots → free ≡ rest ++ k ∷ [] → new.children ≡ fin.empty
-    → IsPlaced (next_number slots free) new.object (child_in slots) (object_in slots) (child_in (set slots k new)) (object_in (set slots k new))
+pub placed_free : (slots : List Slot) (free rest : List ℕ) (k : ℕ) (new : Slot) → k < length slots → free ≡ rest ++ k ∷ [] → new.content.children ≡ fin.empty
+    → IsPlaced (next_number slots free) (object_of new) (child_in slots) (object_in slots) (child_in (set slots k new)) (object_in (set slots k new))
 placed_free slots free rest k new within is object_state =
-    subst (λ i. IsPlaced i new.object (child_in slots) (object_in slots) (child_in (set slots k new)) (object_in (set slots k new)))
+    subst (λ i. IsPlaced i (object_of new) (child_in slots) (object_in slots) (child_in (set slots k new)) (object_in (set slots k new)))
     (sym (ap (λ o. unwrap_or o (length slots)) (slice_get_last rest free k is)))
     (record {
-      here = ap (option_map (λ (x : Slot). x.object)) (slice_get-set_same slots k new within);
-      object_state = λ name. ap (option_and_then (λ (x : Slot). fin.get x.children name)) (slice_get-set_same slots k new within) ∙ ap (λ (c : Children). fin.get c name) object_state ∙ fin.get-empty name_cmp name;
+      here = ap (option_map object_of) (slice_get-set_same slots k new within);
+      object_state = λ name. ap (option_and_then (λ (x : Slot). fin.get x.content.children name)) (slice_get-set_same slots k new within) ∙ ap (λ (c : Children). fin.get c name) object_state ∙ fin.get-empty name_cmp name;
       else = λ i other. (
-        ap (option_map (λ (x : Slot). x.object)) (slice_get-set_other slots k i new other),
-        λ name. ap (option_and_then (λ (x : Slot). fin.get x.children name)) (slice_get-set_other slots k i new other),
+        ap (option_map object_of) (slice_get-set_other slots k i new other),
+        λ name. ap (option_and_then (λ (x : Slot). fin.get x.content.children name)) (slice_get-set_other slots k i new other),
       );
     })
 
-pub placed_new : (slots after : List Slot) (free : List ℕ) (new : Slot) → free ≡ [] → after ≡ slots ++ new ∷ [] → new.children ≡ fin.empty
-    → IsPlaced (next_number slots free) new.object (child_in slots) (object_in slots) (child_in after) (object_in after)
+pub placed_new : (slots after : List Slot) (free : List ℕ) (new : Slot) → free ≡ [] → after ≡ slots ++ new ∷ [] → new.content.children ≡ fin.empty
+    → IsPlaced (next_number slots free) (object_of new) (child_in slots) (object_in slots) (child_in after) (object_in after)
 placed_new slots after free new none is object_state =
-    subst (λ v. IsPlaced (next_number slots v) new.object (child_in slots) (object_in slots) (child_in after) (object_in after)) (sym none)
-    (subst (λ v. IsPlaced (length slots) new.object (child_in slots) (object_in slots) (child_in v) (object_in v)) (sym is) (record {
-      here = ap (option_map (λ (x : Slot). x.object)) (slice_get_push slots new);
-      object_state = λ name. ap (option_and_then (λ (x : Slot). fin.get x.children name)) (slice_get_push slots new) ∙ ap (λ (c : Children). fin.get c name) object_state ∙ fin.get-empty name_cmp name;
+    subst (λ v. IsPlaced (next_number slots v) (object_of new) (child_in slots) (object_in slots) (child_in after) (object_in after)) (sym none)
+    (subst (λ v. IsPlaced (length slots) (object_of new) (child_in slots) (object_in slots) (child_in v) (object_in v)) (sym is) (record {
+      here = ap (option_map object_of) (slice_get_push slots new);
+      object_state = λ name. ap (option_and_then (λ (x : Slot). fin.get x.content.children name)) (slice_get_push slots new) ∙ ap (λ (c : Children). fin.get c name) object_state ∙ fin.get-empty name_cmp name;
       else = λ i other. (
-        ap (option_map (λ (x : Slot). x.object)) (slice_get_before slots i new other),
-        λ name. ap (option_and_then (λ (x : Slot). fin.get x.children name)) (slice_get_before slots i new other),
+        ap (option_map object_of) (slice_get_before slots i new other),
+        λ name. ap (option_and_then (λ (x : Slot). fin.get x.content.children name)) (slice_get_before slots i new other),
       );
     }))
 
 -- ---- by the result of a call
 
 pub put_edges : {A E : Type 0} → (r : Result A E) (slots : List Slot) (k : ℕ) (s new : Slot) → k < length slots → s ≡ get_or slots k s → (name : List ℕ) (child : ℕ)
-    → OnOk r (new.children ≡ fin.insert s.children name child) → OnOk r (IsSet k name (Some child) (child_in slots) (child_in (set slots k new)))
+    → OnOk r (new.content.children ≡ fin.insert s.content.children name child) → OnOk r (IsSet k name (Some child) (child_in slots) (child_in (set slots k new)))
 put_edges (Ok a) slots k s new within at name child ok = set_put slots k s new within at name child ok
 put_edges (Err e) slots k s new within at name child ok = tt
 
 pub put_old : {E : Type 0} → (r : Result (Option ℕ) E) (slots : List Slot) (k : ℕ) (s : Slot) → k < length slots → s ≡ get_or slots k s → (name : List ℕ)
-    → IfOk r (λ old. old ≡ fin.get s.children name) → IfOk r (λ old. old ≡ child_in slots k name)
+    → IfOk r (λ old. old ≡ fin.get s.content.children name) → IfOk r (λ old. old ≡ child_in slots k name)
 put_old (Ok old) slots k s within at name ok = ok ∙ old_child slots k s s within at name
 put_old (Err e) slots k s within at name ok = tt
 

@@ -30,7 +30,7 @@ use Rattle.pv_tree.specs.Changes.{IsRemovable, change_of}
 use Rattle.pv_path.specs.Names.{name_cmp}
 use Rattle.pv_tree.specs.Children.{Children}
 use Rattle.pv_tree.specs.Edges.{led}
-use Rattle.pv_tree.specs.Slots.{child_in, object_in, number_in, slot_in, places_in, files_of, IsForest, AreFree, IsTreeOf}
+use Rattle.pv_tree.specs.Slots.{child_in, object_in, number_in, slot_in, places_in, files_of, IsForest, AreFree, IsTreeOf, object_of}
 use Rattle.pv_tree.proofs.EdgeLaws.{led-on}
 use Rattle.pv_tree.proofs.Files.{places_of}
 use Rattle.pv_tree.proofs.ForestLaws.{object_within}
@@ -97,18 +97,18 @@ changed_at t step path now (inr (inr (inr (inr (inr (inr e)))))) = changed_as t 
 
 -- ---- reads
 
-pub slot_object : (slots : List Slot) (path : Path) → option_map (λ (s : Slot). s.object) (slot_in slots path) ≡ places_in slots path
-slot_object slots path = elim (number_in slots path) as (λ o. option_map (λ (s : Slot). s.object) (option_and_then (slice_get slots) o) ≡ option_and_then (object_in slots) o) [ None ↦ refl | Some i ↦ refl ]
+pub slot_object : (slots : List Slot) (path : Path) → option_map object_of (slot_in slots path) ≡ places_in slots path
+slot_object slots path = elim (number_in slots path) as (λ o. option_map object_of (option_and_then (slice_get slots) o) ≡ option_and_then (object_in slots) o) [ None ↦ refl | Some i ↦ refl ]
 
 module _ (slots : List Slot) (t : Files) (path : Path) (forest : IsForest slots) (same : files_of slots ≡ t) where
   pub object_there : places_in slots path ≡ places t path
   object_there = sym (ap (λ (p : Places). p path) (places_of slots forest)) ∙ ap (λ (f : Files). places f path) same
 
-  pub read_object : (s : Slot) → Some s ≡ slot_in slots path → Some s.object ≡ places t path
-  read_object s is = ap (option_map (λ (x : Slot). x.object)) is ∙ slot_object slots path ∙ object_there
+  pub read_object : (s : Slot) → Some s ≡ slot_in slots path → Some (object_of s) ≡ places t path
+  read_object s is = ap (option_map object_of) is ∙ slot_object slots path ∙ object_there
 
   pub read_none : None ≡ slot_in slots path → None ≡ places t path
-  read_none is = ap (option_map (λ (x : Slot). x.object)) is ∙ slot_object slots path ∙ object_there
+  read_none is = ap (option_map object_of) is ∙ slot_object slots path ∙ object_there
 
 -- ---- names in a directory
 
@@ -124,7 +124,7 @@ sorted_keys (e ∷ es) h =
     above n (x ∷ es) h = let parts = each_T (is_lt (name_cmp n x.0)) (below_all name_cmp n es) h in (less_of-T (name_cmp n x.0) parts.0, above n es parts.1)
 
 module _ (slots : List Slot) (t : Files) (path : Path) (s : Slot) (forest : IsForest slots) (same : files_of slots ≡ t) (is : Some s ≡ slot_in slots path) where
-  child_present : (n : List ℕ) → is_some (fin.get s.children n) ≡ is_some (places t (path ++ n ∷ []))
+  child_present : (n : List ℕ) → is_some (fin.get s.content.children n) ≡ is_some (places t (path ++ n ∷ []))
   child_present n = by (number_in slots path) refl is ∙ ap is_some (object_there slots t (path ++ n ∷ []) forest same)
     where
       held : (k : ℕ) → number_in slots path ≡ Some k → (o : Option ℕ) → number_in slots (path ++ n ∷ []) ≡ o → is_some o ≡ is_some (option_and_then (object_in slots) o)
@@ -135,21 +135,21 @@ module _ (slots : List Slot) (t : Files) (path : Path) (s : Slot) (forest : IsFo
       end None = refl
       end (Some j) = refl
 
-      by : (o : Option ℕ) → number_in slots path ≡ o → Some s ≡ option_and_then (slice_get slots) o → is_some (fin.get s.children n) ≡ is_some (places_in slots (path ++ n ∷ []))
+      by : (o : Option ℕ) → number_in slots path ≡ o → Some s ≡ option_and_then (slice_get slots) o → is_some (fin.get s.content.children n) ≡ is_some (places_in slots (path ++ n ∷ []))
       by None at e = absurd (let no : Some s ≡ None = e in cc)
       by (Some k) at e =
-          let child : fin.get s.children n ≡ number_in slots (path ++ n ∷ []) =
-          ap (option_and_then (λ (x : Slot). fin.get x.children n)) e ∙ sym (led-on (child_in slots) 0 k path (n ∷ []) at ∙ end (child_in slots k n)) in
+          let child : fin.get s.content.children n ≡ number_in slots (path ++ n ∷ []) =
+          ap (option_and_then (λ (x : Slot). fin.get x.content.children n)) e ∙ sym (led-on (child_in slots) 0 k path (n ∷ []) at ∙ end (child_in slots k n)) in
           ap is_some child ∙ held k at (number_in slots (path ++ n ∷ [])) refl
 
-  pub names_same : fin.keys s.children ≡ names_below t path
+  pub names_same : fin.keys s.content.children ≡ names_below t path
   names_same =
-      btree_set_from_contains nat_list_cmp_total (record { keys = fin.keys s.children }) (record { keys = names_below t path })
-      (sorted_keys (fin.entries s.children) (fin.entries_sorted s.children)) (names_below-rise t path)
-      (λ n. sym (fin.contains_key-keys s.children n) ∙ child_present n ∙ sym (names_below-are t path n)) exact_bytes
+      btree_set_from_contains nat_list_cmp_total (record { keys = fin.keys s.content.children }) (record { keys = names_below t path })
+      (sorted_keys (fin.entries s.content.children) (fin.entries_sorted s.content.children)) (names_below-rise t path)
+      (λ n. sym (fin.contains_key-keys s.content.children n) ∙ child_present n ∙ sym (names_below-are t path n)) exact_bytes
 
 pub names_are : {E : Type 0} → (r : Result (List (List ℕ)) E) (slots : List Slot) (t : Files) (path : Path) (s : Slot) → IsForest slots → files_of slots ≡ t → Some s ≡ slot_in slots path
-    → IfOk r (λ names. names ≡ fin.keys s.children) → IfOk r (λ names. names ≡ names_below t path)
+    → IfOk r (λ names. names ≡ fin.keys s.content.children) → IfOk r (λ names. names ≡ names_below t path)
 names_are (Ok names) slots t path s forest same is ok = ok ∙ names_same slots t path s forest same is
 names_are (Err e) slots t path s forest same is ok = tt
 
@@ -228,7 +228,7 @@ abbrev alone : Object → Places
 alone o [] = Some o
 alone o (n ∷ p) = None
 
-module _ (s : Slot) (object_state : s.children ≡ fin.empty) where
+module _ (s : Slot) (object_state : s.content.children ≡ fin.empty) where
   no_child : (n : List ℕ) → child_in (s ∷ []) 0 n ≡ None
   no_child n = ap (λ (c : Children). fin.get c n) object_state ∙ fin.get-empty name_cmp n
 
@@ -249,18 +249,18 @@ module _ (s : Slot) (object_state : s.children ≡ fin.empty) where
     once = λ k m i e f. absurd (let no : None ≡ Some i = e in cc);
   }
 
-  root_at : (q : Path) → places_in (s ∷ []) q ≡ alone s.object q
+  root_at : (q : Path) → places_in (s ∷ []) q ≡ alone (object_of s) q
   root_at [] = refl
   root_at (n ∷ p) = ap (λ o. option_and_then (object_in (s ∷ [])) (option_and_then (λ k. led (child_in (s ∷ [])) k p) o)) (no_child n)
 
-  root_map : (q : Path) → alone s.object q ≡ places (fin.insert fin.empty [] s.object) q
-  root_map [] = sym (fin.get-insert path_total fin.empty [] s.object [])
-  root_map (n ∷ p) = sym (fin.get-insert path_total fin.empty [] s.object (n ∷ p) ∙ fin.get-empty path_cmp (n ∷ p))
+  root_map : (q : Path) → alone (object_of s) q ≡ places (fin.insert fin.empty [] (object_of s)) q
+  root_map [] = sym (fin.get-insert path_total fin.empty [] (object_of s) [])
+  root_map (n ∷ p) = sym (fin.get-insert path_total fin.empty [] (object_of s) (n ∷ p) ∙ fin.get-empty path_cmp (n ∷ p))
 
-  pub root_files : files_of (s ∷ []) ≡ fin.insert fin.empty [] s.object
-  root_files = files_from (s ∷ []) (fin.insert fin.empty [] s.object) root_forest (λ j q. (root_at q ∙ root_map q) j)
+  pub root_files : files_of (s ∷ []) ≡ fin.insert fin.empty [] (object_of s)
+  root_files = files_from (s ∷ []) (fin.insert fin.empty [] (object_of s)) root_forest (λ j q. (root_at q ∙ root_map q) j)
 
-  pub root_tree : s.object.node.kind ≡ Directory → IsObject s.object → IsTreeOf (s ∷ []) []
+  pub root_tree : s.node.kind ≡ Directory → IsObject (object_of s) → IsTreeOf (s ∷ []) []
   root_tree directory whole = record {
     forest = root_forest;
     spare = root_free;
@@ -272,16 +272,16 @@ module _ (s : Slot) (object_state : s.children ≡ fin.empty) where
     });
   }
     where
-      parents : (p : Path) → is_some (alone s.object p) ≡ true → p ≢ [] → kind_of (alone s.object (parent_of p)) ≡ Some Directory
+      parents : (p : Path) → is_some (alone (object_of s) p) ≡ true → p ≢ [] → kind_of (alone (object_of s) (parent_of p)) ≡ Some Directory
       parents [] h other = absurd (other refl)
       parents (n ∷ p) h other = absurd (let no : false ≡ true = h in cc)
 
-      names : (p : Path) → is_some (alone s.object p) ≡ true → has_names p ≡ true
+      names : (p : Path) → is_some (alone (object_of s) p) ≡ true → has_names p ≡ true
       names [] h = refl
       names (n ∷ p) h = absurd (let no : false ≡ true = h in cc)
 
-      objects : (p : Path) (x : Object) → alone s.object p ≡ Some x → IsObject x
-      objects [] x h = subst IsObject (let is : s.object ≡ x = cc in is) whole
+      objects : (p : Path) (x : Object) → alone (object_of s) p ≡ Some x → IsObject x
+      objects [] x h = subst IsObject (let is : (object_of s) ≡ x = cc in is) whole
       objects (n ∷ p) x h = absurd (let no : None ≡ Some x = h in cc)
 
 -- ---- bytes
@@ -298,12 +298,12 @@ pub done : {E : Type 0} → (r : Result (Unit {0}) E) (a b c : Places) → b ≡
 done (Ok u) a b c is ok = ok ∙ is
 done (Err e) a b c is ok = tt
 
-pub new_tree : (s : Slot) (slots : List Slot) (free : List ℕ) (o : Object) → s.children ≡ fin.empty → s.object ≡ o → slots ≡ s ∷ [] → free ≡ [] → o.node.kind ≡ Directory → IsObject o → IsTreeOf slots free
+pub new_tree : (s : Slot) (slots : List Slot) (free : List ℕ) (o : Object) → s.content.children ≡ fin.empty → object_of s ≡ o → slots ≡ s ∷ [] → free ≡ [] → o.node.kind ≡ Directory → IsObject o → IsTreeOf slots free
 new_tree s slots free o object_state is one none directory whole =
     subst (λ (v : List Slot). IsTreeOf v free) (sym one) (subst (λ (v : List ℕ). IsTreeOf (s ∷ []) v) (sym none)
     (root_tree s object_state (ap (λ (x : Object). x.node.kind) is ∙ directory) (subst IsObject (sym is) whole)))
 
-pub new_files : (s : Slot) (slots : List Slot) (o : Object) → s.children ≡ fin.empty → s.object ≡ o → slots ≡ s ∷ [] → files_of slots ≡ fin.insert fin.empty [] o
+pub new_files : (s : Slot) (slots : List Slot) (o : Object) → s.content.children ≡ fin.empty → object_of s ≡ o → slots ≡ s ∷ [] → files_of slots ≡ fin.insert fin.empty [] o
 new_files s slots o object_state is one = ap files_of one ∙ root_files s object_state ∙ ap (fin.insert fin.empty []) is
 
 -- ---- the directory of a path

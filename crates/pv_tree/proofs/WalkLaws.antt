@@ -16,7 +16,7 @@ use Rattle.pv_tree.specs.declared.slot.Slot.{Slot}
 use Rattle.pv_path.specs.Names.{name_cmp}
 use Rattle.pv_tree.specs.Children.{IsSorted}
 use Rattle.pv_tree.specs.Edges.{led}
-use Rattle.pv_tree.specs.Slots.{child_in, object_in, number_in, below, entries_below, entries_in}
+use Rattle.pv_tree.specs.Slots.{child_in, object_in, number_in, below, entries_below, entries_in, object_of}
 use Rattle.pv_tree.specs.Walks.{children_in, below_from, left_in, IsWay, IsWalk}
 use Rattle.pv_tree.proofs.EdgeLaws.{led-on}
 use Rattle.pv_tree.proofs.Files.{Entries, short}
@@ -70,9 +70,9 @@ module _ (slots : List Slot) where
   pub child_there : (i k : ℕ) (n : List ℕ) (j : ℕ) → slice_get (children_in slots i) k ≡ Some (n, j) → child_in slots i n ≡ Some j
   child_there i k n j = by (slice_get slots i)
     where
-      by : (o : Option Slot) → slice_get (option_map_or (λ s. fin.entries s.children) o []) k ≡ Some (n, j) → option_and_then (λ s. fin.get s.children n) o ≡ Some j
+      by : (o : Option Slot) → slice_get (option_map_or (λ s. fin.entries s.content.children) o []) k ≡ Some (n, j) → option_and_then (λ s. fin.get s.content.children n) o ≡ Some j
       by None e = absurd (let no : None ≡ Some (n, j) = e in cc)
-      by (Some s) e = fin.get-entries s.children n ∙ child_entry (fin.entries s.children) k n j (fin.entries_sorted s.children) e
+      by (Some s) e = fin.get-entries s.content.children n ∙ child_entry (fin.entries s.content.children) k n j (fin.entries_sorted s.content.children) e
 
   -- ---- what is left
 
@@ -80,8 +80,8 @@ module _ (slots : List Slot) where
   fresh_slot : (depth j : ℕ) → left_in true depth slots [] ((j, 0) ∷ []) ≡ entries_in depth slots j
   fresh_slot zero j = refl
   fresh_slot (suc depth) j = elim (slice_get slots j) as (λ o.
-      option_map_or (λ s. ([], s.object) ∷ []) o [] ++ entries_below (entries_in depth slots) (option_map_or (λ s. fin.entries s.children) o [])
-      ≡ option_map_or (λ s. ([], s.object) ∷ entries_below (entries_in depth slots) (fin.entries s.children)) o []) [ None ↦ refl | Some s ↦ refl ]
+      option_map_or (λ s. ([], object_of s) ∷ []) o [] ++ entries_below (entries_in depth slots) (option_map_or (λ s. fin.entries s.content.children) o [])
+      ≡ option_map_or (λ s. ([], object_of s) ∷ entries_below (entries_in depth slots) (fin.entries s.content.children)) o []) [ None ↦ refl | Some s ↦ refl ]
 
   next_child : (depth i k m : ℕ) (n : List ℕ) (j : ℕ) → m ≡ suc k → slice_get (children_in slots i) k ≡ Some (n, j)
       → below_from depth slots i k ≡ map (below n) (entries_in depth slots j) ++ below_from depth slots i m
@@ -132,9 +132,9 @@ module _ (slots : List Slot) where
   left_first zero names opened x o len deep is = absurd (omega arith)
   left_first (suc depth) [] [] x o len deep is = ap (λ v. v ++ below_from depth slots x.0 x.1) (found (slice_get slots x.0) is)
     where
-      found : (v : Option Slot) → option_map (λ s. s.object) v ≡ Some o → option_map_or {U = Entries} (λ s. ([], s.object) ∷ []) v [] ≡ ([], o) ∷ []
+      found : (v : Option Slot) → option_map object_of v ≡ Some o → option_map_or {U = Entries} (λ s. ([], object_of s) ∷ []) v [] ≡ ([], o) ∷ []
       found None e = absurd (let no : None ≡ Some o = e in cc)
-      found (Some s) e = let same : s.object ≡ o = cc in ap (λ (v : Object). ([], v) ∷ []) same
+      found (Some s) e = let same : object_of s ≡ o = cc in ap (λ (v : Object). ([], v) ∷ []) same
   left_first (suc depth) [] (z ∷ opened) x o len deep is = absurd (let no : suc (length opened) ≡ 0 = len in omega arith)
   left_first (suc depth) (m ∷ names) [] x o len deep is = absurd (let no : 0 ≡ suc (length names) = len in omega arith)
   left_first (suc depth) (m ∷ names) (z ∷ opened) x o len deep is =
@@ -152,16 +152,6 @@ ends {A = A} (x ∷ xs) = by (ends xs)
     by (inr e) = inr (x ∷ e.0, e.1, ap (λ v. x ∷ v) e.2)
 
 module _ (slots : List Slot) where
-  pub way_start : IsWay slots [] ((0, 0) ∷ [])
-  way_start = record {
-    depth = λ h. refl;
-    numbers = numbers;
-  }
-    where
-      numbers : (m i : ℕ) → option_map (λ (x : ℕ × ℕ). x.0) (slice_get ((0, 0) ∷ []) m) ≡ Some i → number_in slots (take m []) ≡ Some i
-      numbers zero i e = e
-      numbers (suc m) i e = absurd (let no : None ≡ Some i = e in cc)
-
   pub way_end : (names : Path) → IsWay slots names []
   way_end names = record {
     depth = λ h. absurd (omega arith);
@@ -287,11 +277,11 @@ module _ (slots : List Slot) (names : Path) (opened : List (ℕ × ℕ)) (walk :
       ∙ left_first slots (length slots) names ys x o (way_length slots names ys x way) deep object
       ∙ ap (λ (v : List (ℕ × ℕ)). (names, o) ∷ left_in false (length slots) slots names v) (sym is)
 
-  pub stands_at : (x : ℕ × ℕ) (s : Slot) → Some x ≡ slice_get opened (length opened - 1) → s ≡ get_or slots x.0 s → Some (names, s.object) ≡ slice_get (left_in true (length slots) slots names opened) 0
+  pub stands_at : (x : ℕ × ℕ) (s : Slot) → Some x ≡ slice_get opened (length opened - 1) → s ≡ get_or slots x.0 s → Some (names, object_of s) ≡ slice_get (left_in true (length slots) slots names opened) 0
   stands_at x s at is =
       let parts = last_there x at in
-      let object : object_in slots x.0 ≡ Some s.object = ap (option_map (λ (v : Slot). v.object)) (slice_get-get_or slots x.0 s (last_within x at) ∙ ap Some (sym is)) in
-      sym (ap (λ (v : Entries). slice_get v 0) (first_left parts.0 x s.object parts.1 object))
+      let object : object_in slots x.0 ≡ Some (object_of s) = ap (option_map object_of) (slice_get-get_or slots x.0 s (last_within x at) ∙ ap Some (sym is)) in
+      sym (ap (λ (v : Entries). slice_get v 0) (first_left parts.0 x (object_of s) parts.1 object))
 
   pub left_behind : drop 1 (left_in true (length slots) slots names opened) ≡ left_in false (length slots) slots names opened
   left_behind = by (ends opened)

@@ -1,5 +1,5 @@
--- What a step that changes one object leaves of it (chmod(2), chown(2), setxattr(2), chattr(1),
--- utimensat(2), write(2); acl(5)), and an object with another node.
+-- What a step that changes one object makes of it (chmod(2), chown(2), setxattr(2), chattr(1), utimensat(2),
+-- write(2); acl(5)). Also: an object with another node.
 use Rattle.std.specs.Prelude.{◌≡◌, ◌≢◌, ℕ, List, [], ◌∷◌, ◌++◌}
 use Rattle.pv_path.specs.Paths.{Path, parent_of}
 use Rattle.pv_steps.specs.declared.node.Node.{Node}
@@ -9,7 +9,7 @@ use Rattle.pv_steps.specs.declared.step.Step.TheVariants.{Write, SetMode, SetOwn
 use Rattle.pv_steps.specs.Trees.{Places, IsPresentIn, IsAbsentIn}
 use Rattle.pv_steps.specs.Objects.{IsObject, with_mode, with_owner, with_acl, with_attrs, with_letters, with_stamps, with_content}
 
--- the object after the step; each other kind of step leaves it as it is
+-- The object after a step with the time `now`. A step that makes, moves or removes objects leaves it as it is.
 abbrev pub change_of : Step → ℕ → Object → Object
 change_of (Write path content) now o = with_content content now o
 change_of (SetMode path mode) now o = with_mode mode now o
@@ -20,16 +20,16 @@ change_of (SetLetters path letters) now o = with_letters letters now o
 change_of (SetStamps path access modify) now o = with_stamps access modify now o
 change_of step now o = o
 
--- an object in a directory, below which nothing lies
+-- An object is not the root, there is an object above it, and nothing is below it.
 pub record IsRemovable (t : Places) (path : Path) : Type 0 where
   pub no_root : path ≢ []
   pub parent : IsPresentIn t (parent_of path)
   pub alone : (name : List ℕ) (rest : Path) → IsAbsentIn t (path ++ name ∷ rest)
 
--- an object with another node; its payload stays
+-- An object with another node. Its payload stays.
 abbrev pub with_node : Node → Object → Object
 with_node node o = record o { node = node }
 
--- an object may get a node: it is one of its kind, and the object is whole with it
+-- An object may get this node: it has the same kind, and a tree may have the object with it.
 abbrev pub MayHave : Node → Object → Type 0
 MayHave node o = (node.kind ≡ o.node.kind) × IsObject (with_node node o)

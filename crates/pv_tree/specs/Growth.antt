@@ -1,4 +1,4 @@
--- Trees in the making, to which objects are added in the order of their paths.
+-- Trees that are being built: objects are added in the order of their paths.
 use Rattle.std.specs.Prelude.{◌≡◌, ◌≢◌, ℕ, suc, ◌≤◌, false, List, length, take, Some, slice_get, refl}
 use Rattle.std.specs.Coded.{Coded, code_by, coded×, coded_list, coded_ℕ}
 use Rattle.std.specs.FinMap as fin
@@ -9,12 +9,12 @@ use Rattle.pv_steps.specs.Trees.{Files, IsPresentIn}
 use Rattle.pv_tree.specs.declared.slot.Slot.{Slot}
 use Rattle.pv_tree.specs.Slots.{number_in, places_in, IsTreeOf}
 
--- the tree so far, and the path of the last object
+-- The tree so far, and the path of the last object.
 pub record Grown : Type 0 where
   pub files : Files
   pub last : Path
 
--- both as data
+-- How the prover stores both.
 abbrev pub grown_code : Coded Grown
 grown_code =
     code_by (Files × Path)
@@ -23,18 +23,18 @@ grown_code =
     (λ p. record { files = p.0; last = p.1 })
     (λ _. refl)
 
--- how many names two paths share at their beginning
+-- Two paths share this number of names at their beginning, and no more.
 pub record IsShared (p q : Path) (count : ℕ) : Type 0 where
   pub in_first : count ≤ length p
   pub in_second : count ≤ length q
   pub same : take count p ≡ take count q
   pub apart : (m n : List ℕ) → slice_get p count ≡ Some m → slice_get q count ≡ Some n → m ≢ n
 
--- the numbers of slots to which the beginnings of a path lead, from the root on
+-- These are the numbers of the slots to which the prefixes of a path lead, from the root on.
 abbrev pub AreOnWay : List Slot → Path → List ℕ → Type 0
 AreOnWay slots path numbers = (m i : ℕ) → slice_get numbers m ≡ Some i → number_in slots (take m path) ≡ Some i
 
--- slots that hold a tree of which this is the last path, with the numbers on the way to it
+-- Slots hold a tree that has no path after this one. `way` has the numbers of the slots on the way to it.
 pub record IsGrowing (slots : List Slot) (free : List ℕ) (last : Path) (way : List ℕ) : Type 0 where
   pub held : IsTreeOf slots free
   pub whole : length way ≡ suc (length last)

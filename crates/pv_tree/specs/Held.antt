@@ -12,13 +12,13 @@ use Rattle.pv_steps.specs.declared.step.Step.{Step}
 use Rattle.pv_steps.specs.Trees.{Files, IsTree}
 use Rattle.pv_tree.specs.Sole.{tree_prop}
 
--- the tree, the steps done since it was made, and that it is a tree
+-- The objects, the steps done since the tree was made, and the fact that it is a tree.
 pub record Held : Type 0 where
   pub files : Files
   pub steps : List Step
   pub tree : IsTree files
 
--- two are one that have the same tree and the same steps
+-- Two such trees are equal if they have the same objects and the same steps.
 pub same_held : (a b : Held) → a.files ≡ b.files → a.steps ≡ b.steps → a ≡ b
 same_held a b files steps = λ j. record {
   files = files j;
@@ -26,7 +26,7 @@ same_held a b files steps = λ j. record {
   tree = is_prop→PathP (λ i. IsTree (files i)) (λ i. tree_prop (files i)) a.tree b.tree j;
 }
 
--- a tree and its steps as data
+-- How the prover stores a tree and its steps.
 abbrev pub held_code : Coded Held
 held_code =
     coded_via
@@ -34,6 +34,6 @@ held_code =
     (λ h. (h.files, h.steps))
     (λ a b e. same_held a b (ap (λ p. p.0) e) (ap (λ p. p.1) e))
 
--- the tree that has a root alone
+-- The tree that has only a root.
 abbrev pub root_alone : Node → Files
 root_alone node = fin.insert fin.empty [] (record { node = node; payload = [] })

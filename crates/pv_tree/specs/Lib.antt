@@ -1,7 +1,8 @@
 pub mod Finding
 pub mod Children
-pub mod RareChildren
-pub mod Keys
+pub mod Content
+pub mod Forms
+pub mod Heads
 pub mod Edges
 pub mod Slots
 pub mod Walks

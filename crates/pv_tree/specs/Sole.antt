@@ -1,6 +1,6 @@
--- What makes a map a tree can hold in one way at most: so it can be a fact of a type's fields.
+-- Being a tree has at most one proof. So it can be kept in a field of a type without making equal trees different.
 use Rattle.std.specs.Prelude.{◌≡◌, ℕ, List, [], None}
-use Rattle.std.specs.Coded.{Coded, Coded-set, Unit-prop, ×_prop, coded_bool, coded_list, coded_option, coded_ℕ, le_prop}
+use Rattle.std.specs.Coded.{Coded-set, Unit-prop, ×_prop, coded_bool, coded_list, coded_option, coded_ℕ, le_prop}
 use Rattle.pv_acl.specs.contracts.part.Acl as acl
 use Rattle.pv_acl.specs.contracts.part.Part as part
 use Rattle.pv_acl.specs.declared.part.Acl.{Acl}
@@ -105,5 +105,6 @@ tree_in_prop t x y = λ j. record {
   objects = λ path o is. object_prop o (x.objects path o is) (y.objects path o is) j;
 }
 
+-- There is at most one proof that a map is a tree.
 pub tree_prop : (files : Files) → IsProp (IsTree files)
 tree_prop files = tree_in_prop (places files)

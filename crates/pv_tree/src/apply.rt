@@ -1,4 +1,4 @@
-//! One step done on the slots, and recorded.
+//! Does one step on the slots, and records it.
 ghost use Rattle.std.specs.Prelude.{◌≡◌, ℕ, List, ◌∷◌, [], ◌++◌, OnOk, OnErr, IsErrOf, nat_lt, true};
 ghost use Rattle.std.specs.List.{list_all};
 ghost use Rattle.pv_path.specs.Paths.{has_names};
@@ -14,8 +14,9 @@ use pv_path::{Bytes, TreePath};
 use pv_steps::{Kind, Object, Step, TreeFault};
 use std::alloc::{AllocError, Global};
 
-/// Does a step on the slots, and tells it at the end of the list of steps. The step is copied first. After
-/// running out of memory, which is the only fault, both are as before.
+/// Does a step on the slots, and appends a copy of it to the list of recorded steps.
+///
+/// The only error is `Memory`. Slots and list are then as before.
 pub(crate) fn do_told(
     alloc: Global,
     slots: &mut Vec<Slot>,
@@ -46,7 +47,7 @@ pub(crate) fn do_told(
     }
 }
 
-/// Tells a step at the end of the list of steps. After running out of memory the list is as before.
+/// Appends a copy of a step to the list of recorded steps. If memory runs out, the list is as before.
 fn tell(steps: &mut Vec<Step>, step: &Step) -> Result<(), AllocError>
     ensures ok { OnOk result (steps.new.items ≡ steps.old.items ++ step.now ∷ []) }
     ensures err { OnErr result (steps.new.items ≡ steps.old.items) }
@@ -55,7 +56,7 @@ fn tell(steps: &mut Vec<Step>, step: &Step) -> Result<(), AllocError>
     Ok(())
 }
 
-/// Does a step on the slots. After running out of memory they are as before.
+/// Does a step on the slots. If memory runs out, they are as before.
 fn do_step(
     alloc: Global,
     slots: &mut Vec<Slot>,
@@ -121,7 +122,11 @@ fn device_kind(block: bool) -> Kind
     }
 }
 
-/// What the types of a step's parts say: it fits. It takes no memory.
+/// Gives the proof of its caller the fact that the parts of a step fit their types (`StepFits`). It does nothing
+/// when it runs.
+///
+/// The prover then knows, for example, that each name in the step is a name, and that each target is a list of bytes.
+/// The call does not allocate.
 pub fn parts_fit(step: &Step)
     ensures { StepFits step.now }
 {

@@ -1,4 +1,4 @@
-//! Looking for a place in a list in order by binary search.
+//! Binary search in a sorted list whose items are reached through a trait.
 ghost use Rattle.std.specs.Prelude.{◌≡◌, ℕ, ◌+◌, ◌^◌, ◌<◌, ◌≤◌, List, length, Some, position, slice_get, MatchResult};
 ghost use Rattle.std.specs.Ordering.{is_eq};
 ghost use Rattle.std.specs.declared.cmp.Ordering.{Ordering as Order};
@@ -6,14 +6,21 @@ ghost use Rattle.pv_tree.specs.Finding.{IsRising, IsFoundAt, IsGapAt};
 
 use std::cmp::Ordering;
 
-/// Something that knows how each item of a list compares with what is sought, and may be asked so many times. It means
-/// the list of these orders, which no query changes, and the number of queries left.
+/// A sorted list that can be asked only one thing: how the item at an index compares with what is sought.
+///
+/// In contracts, a value has the list of the answers for all indices, which no query changes, and the number of queries
+/// that are left.
 pub trait Probe {
+    /// How each item of the list compares with what is sought.
     ghost orders: { Self → List Order };
 
+    /// How many queries are left.
     ghost left: { Self → ℕ };
 
-    /// How the place stands to what is sought. It takes no memory.
+    /// Returns how the item at an index compares with what is sought: `Less` if the item comes before it.
+    ///
+    /// The index is counted from 0 and must be below the length, and a query must be left. The call uses up one query.
+    /// The call does not allocate.
     fn compare(&mut self, i: usize) -> Ordering
         requires place { i < length (orders self.old) }
         requires question { 1 ≤ left self.old }
@@ -22,8 +29,14 @@ pub trait Probe {
         ensures asked { left self.new + 1 ≡ left self.old };
 }
 
-/// Binary search: the index of the item that is equal to what is sought, or nothing if there is none. With the least d
-/// for which `len` is below 2^d, it makes at most d queries. It takes no memory.
+/// Finds the index of the item that is equal to what is sought by binary search, or gives `None` if there is no
+/// such item.
+///
+/// The list must be sorted: first the items that are less, then at most one that is equal, then those that are
+/// greater. `len` is its length.
+///
+/// For the least d such that `len` is below 2^d, the call makes at most d queries. At least that many queries must be
+/// left. For example, 10 queries are enough for 1000 items. The call does not allocate.
 pub fn find<P: Probe>(probe: &mut P, len: usize) -> Option<usize>
     requires len { len ≡ length (P.orders probe.old) }
     requires rising { IsRising (P.orders probe.old) }
@@ -37,7 +50,7 @@ pub fn find<P: Probe>(probe: &mut P, len: usize) -> Option<usize>
     place_of(probe, len).ok()
 }
 
-/// The place that is equal to what is sought, or else the place at which it would be put.
+/// Finds the index of the item that is equal to what is sought (`Ok`), or the index at which to insert it (`Err`).
 pub(crate) fn place_of<P: Probe>(probe: &mut P, len: usize) -> Result<usize, usize>
     requires len { len ≡ length (P.orders probe.old) }
     requires rising { IsRising (P.orders probe.old) }

@@ -1,4 +1,4 @@
-//! A tree in the making: objects are added in the order of their paths.
+//! A builder of trees: objects are added in the order of their paths.
 ghost use Rattle.std.specs.Prelude.{◌≡◌, ◌≢◌, ℕ, ◌+◌, ◌<◌, ◌≤◌, List, [], length, take, vec_len, vec_capacity, true, false, Some, Err, IfOk, OnOk, OnErr};
 ghost use Rattle.std.specs.Ordering.{is_lt};
 ghost use Rattle.std.specs.FinMap as fin;
@@ -22,13 +22,14 @@ use std::alloc::{AllocError, Global};
 use std::marker::Model;
 use thiserror::Error;
 
-/// Why an object was not added to a tree in the making.
+/// Why a `TreeBuilder` did not add an object.
 #[derive(Clone, Copy, Debug, PartialEq, Eq, Error)]
 pub enum BuildFault {
-    /// The path is not greater than the last one.
+    /// The path is not greater than the path that was added last. Paths are compared name by name, and names byte
+    /// by byte.
     #[error("OutOfOrder")]
     OutOfOrder,
-    /// The path's parent is not a directory of the tree.
+    /// The parent of the path is absent from the tree, or it is not a directory.
     #[error("NoParent")]
     NoParent,
     /// Memory ran out.
@@ -44,7 +45,7 @@ impl From<AllocError> for BuildFault {
     }
 }
 
-/// How many names two paths share at their beginning.
+/// Counts the names that two paths share at their beginning.
 fn shared_names(first: &[Name], second: &[Name]) -> usize
     ensures { IsShared first.now second.now result }
 {
@@ -55,7 +56,7 @@ fn shared_names(first: &[Name], second: &[Name]) -> usize
     count
 }
 
-/// Whether the second path comes after the first, with which it shares so many names.
+/// Returns whether the second path is greater than the first one, with which it shares so many names.
 fn comes_after(first: &TreePath, second: &TreePath, shared: usize) -> bool
     requires { IsShared first.now second.now shared }
     ensures { result ≡ is_lt (path_cmp first.now second.now) }
@@ -67,8 +68,9 @@ fn comes_after(first: &TreePath, second: &TreePath, shared: usize) -> bool
     }
 }
 
-/// How many names of the last path are those of the directory that a path after it lies in. No other
-/// directory can be there: what lies between the directory and the path lies in the directory.
+/// Counts the names of the last path that make up the parent of the next path.
+///
+/// No other directory can be this parent, because objects come in the order of their paths.
 fn depth_after(last: &TreePath, path: &TreePath) -> Result<usize, BuildFault>
     ensures depth { IfOk result (λ depth. take depth last.now ≡ parent_of path.now) }
     ensures parent { IfOk result (λ depth. depth + 1 ≡ length path.now) }
@@ -88,8 +90,10 @@ fn depth_after(last: &TreePath, path: &TreePath) -> Result<usize, BuildFault>
     Ok(shared)
 }
 
-/// How many names of the last path are those of the parent of a path after it. It makes room for one more number in the
-/// numbers of the last path. After a fault these are as before.
+/// Counts the names of the last path that make up the parent of the next path, and makes room for one more slot
+/// number in `way`.
+///
+/// After an error the numbers in `way` are as before.
 fn directory_depth(
     slots: &Vec<Slot>,
     last: &TreePath,
@@ -118,8 +122,9 @@ fn directory_depth(
     Ok(depth)
 }
 
-/// Adds an object after the last one. Its path and the numbers of its ancestors are given. After a fault all is as
-/// before.
+/// Adds an object after the last one, whose path and ancestors' slot numbers are given.
+///
+/// After an error everything is as before.
 fn add_after(
     alloc: Global,
     slots: &mut Vec<Slot>,
@@ -153,16 +158,20 @@ fn add_after(
     Ok(())
 }
 
-/// A tree that is built by adding objects in the order of their paths. The last path shows where the next one lies, so
-/// nothing is looked up. Clauses see the tree so far and the last path.
+/// A tree that is built by adding objects in the order of their paths, and so without looking up directories.
+///
+/// For example, `/`, `/a`, `/a/b` and `/b` are in this order: a directory comes before what is in it.
+///
+/// In contracts, a value has two parts: `files`, the tree so far, and `last`, the path of the object that was added
+/// last.
 #[derive(Drop)]
 pub struct TreeBuilder {
     alloc: Global,
     slots: Vec<Slot>,
     free: Vec<usize>,
-    /// The path of the last object.
+    /// The path of the object that was added last.
     last: TreePath,
-    /// The numbers of the slots from the root to the last object.
+    /// The numbers of the slots from the root to this object.
     way: Vec<usize>,
 }
 
@@ -180,7 +189,10 @@ impl Model for TreeBuilder {
 }
 
 impl TreeBuilder {
-    /// The tree of a root alone, which is the last object.
+    /// Returns a builder whose tree has only a root, which counts as the object that was added last.
+    ///
+    /// `root` is the node of the root. Its kind must be `Directory`, and its parts must fit each other (`IsObject` in
+    /// pv_steps). The only error is `AllocError`.
     pub fn new(alloc: Global, root: Node) -> Result<TreeBuilder, AllocError>
         requires kind { root.kind ≡ Directory }
         requires object { IsObject (record { node = root; payload = [] }) }
@@ -198,8 +210,12 @@ impl TreeBuilder {
         })
     }
 
-    /// Adds an object, with its timestamps as they are, whose path and payload are taken over. After a fault the
-    /// tree is as before.
+    /// Adds an object with its timestamps as they are, and takes over path and payload without copying them.
+    ///
+    /// The path must be greater than the last one, and its parent must be a directory of the tree. Otherwise the error
+    /// is `OutOfOrder` or `NoParent`. If both apply, it is `OutOfOrder`. If memory ran out, it is `Memory`.
+    ///
+    /// The parts of the object must fit each other (`IsObject` in pv_steps). After an error the builder is as before.
     pub fn add(&mut self, path: TreePath, object: Object) -> Result<(), BuildFault>
         requires { IsObject object }
         ensures ok { OnOk result (self.new ≡ record { files = fin.insert self.old.files path object; last = path }) }
@@ -207,7 +223,7 @@ impl TreeBuilder {
         ensures after { OnOk result (is_lt (path_cmp self.old.last path) ≡ true) }
         ensures parent { OnOk result (IsKind Directory self.old.files (parent_of path)) }
 
-        // A path out of order is told before one without a parent.
+        // A path out of order is reported before a missing parent.
         ensures order { result ≡ Err BuildFault.OutOfOrder → is_lt (path_cmp self.old.last path) ≡ false }
         ensures late { result ≡ Err BuildFault.NoParent → is_lt (path_cmp self.old.last path) ≡ true }
         ensures orphan { result ≡ Err BuildFault.NoParent → IsKind Directory self.old.files (parent_of path) → ⊥ }
@@ -224,7 +240,25 @@ impl TreeBuilder {
         )
     }
 
-    /// The tree as it is, with no step recorded. It takes no memory.
+    /// Adds an object as `add` does, without its checks. The path must be greater than the last one, and its parent
+    /// must be a directory of the tree. The parts of the object must fit each other (`IsObject` in pv_steps).
+    ///
+    /// The only error is `AllocError`. The builder is then as before.
+    pub fn add_next(&mut self, path: TreePath, object: Object) -> Result<(), AllocError>
+        requires object { IsObject object }
+        requires after { is_lt (path_cmp self.old.last path) ≡ true }
+        requires parent { IsKind Directory self.old.files (parent_of path) }
+        ensures ok { OnOk result (self.new ≡ record { files = fin.insert self.old.files path object; last = path }) }
+        ensures err { OnErr result (self.new ≡ self.old) }
+    {
+        match self.add(path, object) {
+            Ok(()) => Ok(()),
+            Err(BuildFault::Memory) => Err(AllocError),
+            Err(BuildFault::OutOfOrder | BuildFault::NoParent) => unreachable!(),
+        }
+    }
+
+    /// Returns the tree that was built, with no step recorded. The call does not allocate.
     pub fn finish(self) -> MemTree
         ensures files { result.files ≡ self.files }
         ensures steps { result.steps ≡ [] }

@@ -7,7 +7,7 @@ ghost use Rattle.pv_path.specs.Names.{name_cmp};
 ghost use Rattle.pv_tree.specs.Children.{IsSorted, orders_of, without};
 
 use crate::binary_search::{Probe, find, place_of};
-use crate::keyed_name::{KeyedName, SoughtName};
+use crate::sought_name::SoughtName;
 use pv_path::{Name, NameList};
 use std::alloc::{AllocError, Global};
 use std::cell::Cell;
@@ -19,7 +19,7 @@ use std::mem::replace;
 /// The names of children beside one that is sought.
 #[derive(Drop)]
 struct NameProbe<'a> {
-    entries: &'a VecDeque<(KeyedName, usize)>,
+    entries: &'a VecDeque<(Name, usize)>,
     name: &'a SoughtName<'a>,
     left: u32,
 }
@@ -31,14 +31,14 @@ impl<'a> Probe for NameProbe<'a> {
 
     fn compare(&mut self, i: usize) -> Ordering {
         self.left -= 1;
-        self.entries[i].0.order(self.name)
+        self.name.order_of(&self.entries[i].0)
     }
 }
 
 /// The names of children that lie in a row beside one that is sought, which are asked faster.
 #[derive(Drop)]
 struct RowProbe<'a> {
-    entries: &'a [(KeyedName, usize)],
+    entries: &'a [(Name, usize)],
     name: &'a SoughtName<'a>,
     left: u32,
 }
@@ -50,17 +50,17 @@ impl<'a> Probe for RowProbe<'a> {
 
     fn compare(&mut self, i: usize) -> Ordering {
         self.left -= 1;
-        self.entries[i].0.order(self.name)
+        self.name.order_of(&self.entries[i].0)
     }
 }
 
 /// The number at a place of a row, where a name stands there.
-fn number_there(entries: &[(KeyedName, usize)], i: usize, name: &SoughtName<'_>) -> Option<usize>
+fn number_there(entries: &[(Name, usize)], i: usize, name: &SoughtName<'_>) -> Option<usize>
     requires { IsSorted entries.now }
     ensures { IfSome result (λ number. Some number ≡ fin.find name_cmp name.now entries.now) }
 {
     let entry = entries.get(i)?;
-    if entry.0.order(name).is_eq() {
+    if name.order_of(&entry.0).is_eq() {
         Some(entry.1)
     } else {
         None
@@ -69,7 +69,7 @@ fn number_there(entries: &[(KeyedName, usize)], i: usize, name: &SoughtName<'_>)
 
 /// The number at a name in a row, or nothing if it is absent. It makes at most 64 queries.
 fn number_sought(
-    entries: &[(KeyedName, usize)],
+    entries: &[(Name, usize)],
     last: &Cell<usize>,
     name: &SoughtName<'_>,
 ) -> Option<usize>
@@ -92,11 +92,7 @@ fn number_sought(
 
 /// The number that stands at a name in a row, or nothing if it is absent. What is sought is mostly what was found
 /// last, or stands after it.
-fn number_in(
-    entries: &[(KeyedName, usize)],
-    last: &Cell<usize>,
-    name: &SoughtName<'_>,
-) -> Option<usize>
+fn number_in(entries: &[(Name, usize)], last: &Cell<usize>, name: &SoughtName<'_>) -> Option<usize>
     requires { IsSorted entries.now }
     ensures { result ≡ fin.find name_cmp name.now entries.now }
 {
@@ -115,7 +111,7 @@ fn number_in(
 /// The number that stands at a name, or nothing if it is absent. The entries lie in two rows, of which the second is
 /// mostly empty.
 fn number_of(
-    entries: &VecDeque<(KeyedName, usize)>,
+    entries: &VecDeque<(Name, usize)>,
     last: &Cell<usize>,
     name: &SoughtName<'_>,
 ) -> Option<usize>
@@ -130,18 +126,18 @@ fn number_of(
 }
 
 /// Whether each name stands before one.
-fn is_after_all(entries: &VecDeque<(KeyedName, usize)>, name: &SoughtName<'_>) -> bool
+fn is_after_all(entries: &VecDeque<(Name, usize)>, name: &SoughtName<'_>) -> bool
     requires { IsSorted entries.now.items }
     ensures { result ≡ true → IsGapAt (orders_of name.now entries.now.items) (length entries.now.items) }
 {
     match entries.back() {
-        Some(last) => last.0.order(name).is_lt(),
+        Some(last) => name.order_of(&last.0).is_lt(),
         None => true,
     }
 }
 
 /// The index of a name, or otherwise the index at which it would be put. A name after all others costs one query.
-fn place(entries: &VecDeque<(KeyedName, usize)>, name: &SoughtName<'_>) -> Result<usize, usize>
+fn place(entries: &VecDeque<(Name, usize)>, name: &SoughtName<'_>) -> Result<usize, usize>
     requires { IsSorted entries.now.items }
     ensures found { IfOk result (IsFoundAt (orders_of name.now entries.now.items)) }
     ensures gap { IfErr result (IsGapAt (orders_of name.now entries.now.items)) }
@@ -159,7 +155,7 @@ fn place(entries: &VecDeque<(KeyedName, usize)>, name: &SoughtName<'_>) -> Resul
 }
 
 /// Puts a number at a place, and gives back the one that stood there.
-fn replace_at(entries: &mut VecDeque<(KeyedName, usize)>, i: usize, number: usize) -> usize
+fn replace_at(entries: &mut VecDeque<(Name, usize)>, i: usize, number: usize) -> usize
     requires { i < length entries.old.items }
     ensures put { (name : List ℕ) → IsFoundAt (orders_of name entries.old.items) i →
         entries.new.items ≡ fin.put name_cmp name number entries.old.items }
@@ -172,8 +168,8 @@ fn replace_at(entries: &mut VecDeque<(KeyedName, usize)>, i: usize, number: usiz
 
 /// Puts a number at a name, and gives back the one that stood there.
 fn put_in(
-    entries: &mut VecDeque<(KeyedName, usize)>,
-    name: KeyedName,
+    entries: &mut VecDeque<(Name, usize)>,
+    name: Name,
     number: usize,
 ) -> Result<Option<usize>, AllocError>
     requires { IsSorted entries.old.items }
@@ -181,7 +177,7 @@ fn put_in(
     ensures old { IfOk result (λ old. old ≡ fin.find name_cmp name entries.old.items) }
     ensures err { OnErr result (entries.new.items ≡ entries.old.items) }
 {
-    match place(entries, &name.sought()) {
+    match place(entries, &SoughtName::of(&name)) {
         Ok(i) => Ok(Some(replace_at(entries, i, number))),
         Err(i) => {
             entries.insert(i, (name, number))?;
@@ -191,7 +187,7 @@ fn put_in(
 }
 
 /// Takes the entry of a name out, if there is one.
-fn take_out(entries: &mut VecDeque<(KeyedName, usize)>, name: &SoughtName<'_>) -> Option<usize>
+fn take_out(entries: &mut VecDeque<(Name, usize)>, name: &SoughtName<'_>) -> Option<usize>
     requires { IsSorted entries.old.items }
     ensures items { entries.new.items ≡ without name.now entries.old.items }
     ensures old { result ≡ fin.find name_cmp name.now entries.old.items }
@@ -209,7 +205,7 @@ fn take_out(entries: &mut VecDeque<(KeyedName, usize)>, name: &SoughtName<'_>) -
 #[derive(Drop)]
 pub(crate) struct Children {
     /// In byte order of the names, each name once.
-    entries: VecDeque<(KeyedName, usize)>,
+    entries: VecDeque<(Name, usize)>,
     /// The place of what was found last.
     last: Cell<usize>,
 }
@@ -253,7 +249,7 @@ impl Children {
         ensures old { IfOk result (λ old. old ≡ fin.get self.old name) }
         ensures err { OnErr result (self.new ≡ self.old) }
     {
-        put_in(&mut self.entries, KeyedName::of(name), number)
+        put_in(&mut self.entries, name, number)
     }
 
     /// Takes the child with a name out, and gives back its number, if there is one.
@@ -273,7 +269,7 @@ impl Children {
 
     /// The child at a place in byte order of the names, counted from 0, or nothing past the end. It takes
     /// no memory.
-    pub(crate) fn child(&self, i: usize) -> Option<&(KeyedName, usize)>
+    pub(crate) fn child(&self, i: usize) -> Option<&(Name, usize)>
         ensures child { option_copied result ≡ slice_get (fin.entries self.now) i }
         ensures within { IfSome result (λ _. i + 1 < 2 ^ 64) }
     {
@@ -282,12 +278,12 @@ impl Children {
 }
 
 /// Copies of the names of entries.
-fn names_of(alloc: Global, entries: &VecDeque<(KeyedName, usize)>) -> Result<NameList, AllocError>
+fn names_of(alloc: Global, entries: &VecDeque<(Name, usize)>) -> Result<NameList, AllocError>
     ensures { IfOk result (λ names. names ≡ map (λ e. e.0) entries.now.items) }
 {
     let mut names = NameList::new(alloc);
     for i in 0..entries.len() {
-        names.push(entries[i].0.name().copy()?)?;
+        names.push(entries[i].0.copy()?)?;
     }
     Ok(names)
 }

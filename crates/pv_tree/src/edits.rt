@@ -1,4 +1,4 @@
-//! The edits of the tree: an object changes, comes, goes, or moves with all that lies below it.
+//! The edits of the tree: an object is changed, added, removed, or moved with everything below it.
 ghost use Rattle.std.specs.Prelude.{◌≡◌, ◌≢◌, ℕ, ◌<◌, List, [], ◌∷◌, ◌++◌, length, vec_len, vec_capacity, Some, IfOk, OnOk, OnErr};
 ghost use Rattle.std.specs.Option.{option_to_list};
 ghost use Rattle.pv_path.specs.Paths.{Path, parent_of};
@@ -9,6 +9,7 @@ ghost use Rattle.pv_tree.specs.Changes.{IsRemovable, change_of, with_node};
 ghost use Rattle.pv_tree.specs.Edges.{IsSet};
 ghost use Rattle.pv_tree.specs.Slots.{IsForest, AreFree, child_in, next_number, number_in, object_in, places_in};
 
+use crate::content::Content;
 use crate::slot::Slot;
 use crate::slots::{
     change_slot, child_of, location, next_number, number_at, own_name, place, push_within,
@@ -18,15 +19,17 @@ use pv_path::{Bytes, Name, TreePath};
 use pv_steps::{Kind, Node, Object, Step};
 use std::alloc::{AllocError, Global};
 
-/// A new object without a payload, which is no device.
+/// Returns a new object without a payload, of a kind that is not a device.
 pub(crate) fn plain(alloc: Global, kind: Kind, mode: u16, now: u64) -> Object
     ensures { result ≡ fresh kind mode [] 0 0 now }
 {
     Object::fresh(alloc, kind, mode, Bytes::new(alloc), 0, 0, now)
 }
 
-/// Puts an object at an absent path into its directory, which has this number, and gives the number of the
-/// object. After running out of memory the slots are as before.
+/// Adds an object at an absent path to its directory, whose slot number is known, and gives the number of the new
+/// object.
+///
+/// If memory runs out, the slots are as before.
 pub(crate) fn put_below(
     alloc: Global,
     slots: &mut Vec<Slot>,
@@ -47,13 +50,16 @@ pub(crate) fn put_below(
         ((q : Path) → q ≢ path.now → number_in slots.new.items q ≡ number_in slots.old.items q) }
     ensures err { OnErr result (slots.new.items ≡ slots.old.items) }
 {
+    let Object { node, payload } = object;
+    let content = Content::of(alloc, payload)?;
     let number = name_next(slots, free, directory, own_name(path))?;
-    place(alloc, slots, free, object);
+    place(slots, free, Slot { node, content });
     Ok(number)
 }
 
-/// Names the next new slot in a directory, with room for it, and gives its number. After running out of memory the
-/// slots are as before.
+/// Enters a name in a directory for the next new slot, makes room for this slot, and gives its number.
+///
+/// If memory runs out, the slots are as before.
 fn name_next(
     slots: &mut Vec<Slot>,
     free: &Vec<usize>,
@@ -75,8 +81,9 @@ fn name_next(
     Ok(number)
 }
 
-/// Puts an object at an absent path in a directory, and gives the number of the directory. After running out of memory
-/// the slots are as before.
+/// Adds an object at an absent path in a directory, and gives the slot number of the directory.
+///
+/// If memory runs out, the slots are as before.
 pub(crate) fn put(
     alloc: Global,
     slots: &mut Vec<Slot>,
@@ -98,8 +105,10 @@ pub(crate) fn put(
     Ok(directory)
 }
 
-/// Puts a new object at an absent path in a directory, and notes it there. After running out of memory the slots
-/// are as before.
+/// Adds a new object at an absent path in a directory, and sets the timestamps of this directory as for a change of
+/// its content.
+///
+/// If memory runs out, the slots are as before.
 pub(crate) fn make(
     alloc: Global,
     slots: &mut Vec<Slot>,
@@ -121,8 +130,9 @@ pub(crate) fn make(
     Ok(())
 }
 
-/// Does a step that changes the object at a path, if there is one. After running out of memory the slots are
-/// as before.
+/// Does a step that changes the object at a path, if there is one.
+///
+/// If memory runs out, the slots are as before.
 pub(crate) fn change_at(
     slots: &mut Vec<Slot>,
     path: &TreePath,
@@ -142,7 +152,7 @@ pub(crate) fn change_at(
     }
 }
 
-/// Gives the object at the path of some names, if there is one, another node.
+/// Replaces the node of the object at the path of these names, if there is one.
 pub(crate) fn set_node_at(slots: &mut Vec<Slot>, names: &[Name], node: Node)
     requires { IsForest slots.old.items }
     ensures forest { IsForest slots.new.items }
@@ -155,7 +165,7 @@ pub(crate) fn set_node_at(slots: &mut Vec<Slot>, names: &[Name], node: Node)
     }
 }
 
-/// Adds a number to those that are free, if there is one. There must be room.
+/// Appends a number, if there is one, to the free numbers. There must be room.
 fn release(free: &mut Vec<usize>, number: Option<usize>)
     requires { vec_len free.old < vec_capacity free.old }
     ensures { free.new.items ≡ free.old.items ++ option_to_list number }
@@ -165,8 +175,10 @@ fn release(free: &mut Vec<usize>, number: Option<usize>)
     }
 }
 
-/// Removes the object at a path, below which nothing lies, and changes its parent's timestamps. After running out of
-/// memory the slots are as before.
+/// Removes the object at a path, below which there is nothing, and sets the timestamps of its directory as for a
+/// change of its content.
+///
+/// If memory runs out, the slots are as before.
 pub(crate) fn unmake(
     slots: &mut Vec<Slot>,
     free: &mut Vec<usize>,
@@ -189,7 +201,7 @@ pub(crate) fn unmake(
     Ok(())
 }
 
-/// Renames the object at a path, with all below it. After running out of memory the slots are as before.
+/// Renames the object at a path, with everything below it. If memory runs out, the slots are as before.
 pub(crate) fn rename(
     slots: &mut Vec<Slot>,
     free: &mut Vec<usize>,

@@ -1,4 +1,4 @@
-//! A tree that refuses each step after a number of them.
+//! A tree with a step limit.
 ghost use Rattle.std.specs.Prelude.{◌≡◌, ◌≢◌, ℕ, ◌+◌, ◌<◌, ◌≤◌, ◌↔◌, IsTrue, List, [], ◌∷◌, ◌++◌, length, Some, OnOk, OnErr, IfOk, IsErrOf};
 ghost use Rattle.std.specs.Option.{option_copied};
 ghost use Rattle.pv_steps.specs.declared.node.Kind.TheVariants.{Directory, File, Link};
@@ -14,19 +14,22 @@ use pv_path::{NameList, TreePath};
 use pv_steps::{Node, Step, Tree, TreeFault};
 use std::alloc::{AllocError, Global};
 
-/// A tree with a step limit: it passes a number of steps and then refuses each further one. Its state and its list of
-/// steps are those of the inner tree.
+/// A tree with a step limit: it lets a number of steps pass to the inner tree, and then refuses each further step with
+/// `Failed`.
+///
+/// Its state and its list of recorded steps are those of the inner tree. For example, a tree with the limit 0
+/// refuses every step.
 #[derive(Drop)]
 pub struct Fused<T> {
     inner: T,
-    /// How many steps it still passes; without a limit it passes all.
+    /// How many more steps may pass; `None` if there is no limit.
     left: Option<u64>,
-    /// How many steps it refused, up to the last value.
+    /// How many steps were refused because of the limit, up to the largest number.
     refused: u64,
 }
 
 impl<T: Tree> Fused<T> {
-    /// A tree that passes `limit` steps, or all without a limit. It takes no memory.
+    /// Returns a tree that lets `limit` steps pass, or every step if `limit` is `None`. The call does not allocate.
     pub fn new(inner: T, limit: Option<u64>) -> Fused<T>
         ensures { result ≡ record { inner = inner; left = limit; refused = 0 } }
     {
@@ -37,21 +40,22 @@ impl<T: Tree> Fused<T> {
         }
     }
 
-    /// Whether a step was refused for the limit. It takes no memory.
+    /// Returns whether a step was refused because of the limit. A step that the inner tree refused does not count. The
+    /// call does not allocate.
     pub fn stopped(&self) -> bool
         ensures { IsTrue result ↔ (0 < self.now.refused) }
     {
         self.refused > 0
     }
 
-    /// The inner tree. It takes no memory.
+    /// Returns the inner tree by reference. The call does not allocate.
     pub fn inner(&self) -> &T
         ensures { result.now ≡ self.now.inner }
     {
         &self.inner
     }
 
-    /// Gives the inner tree back. It takes no memory.
+    /// Returns the inner tree by value, without the limit. The call does not allocate.
     pub fn into_inner(self) -> T
         ensures { result ≡ self.inner }
     {
@@ -107,11 +111,11 @@ impl<T: Tree> Tree for Fused<T> {
         ensures last { IsErrOf result Failed →
             last_refusal self.new.left (length (T.steps self.new.inner)) (T.refused_at self.new.inner) ≡ length (T.steps self.new.inner) }
 
-        // It refuses each step where nothing is left, and the inner tree is not asked.
+        // If nothing is left of the limit, the step is refused and the inner tree is not asked.
         ensures refused { self.old.left ≡ Some 0 → (result ≡ Err Failed) × (self.new.inner ≡ self.old.inner) }
         ensures refusals { self.new.refused ≡ refusals_after self.old.left self.old.refused }
 
-        // Otherwise a step fails only if the inner tree does.
+        // Otherwise the step fails only if it fails on the inner tree.
         ensures passed { self.old.left ≢ Some 0 →
             T.faults self.new.inner ≡ faults_after (refused result) (T.faults self.old.inner) }
 

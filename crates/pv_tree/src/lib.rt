@@ -1,17 +1,21 @@
-//! The tree in memory, as numbered slots, and a tree that stops after a limit of steps.
+//! A file tree in memory (`MemTree`), a builder that makes one from a sorted list of objects, and a tree with a
+//! step limit (`Fused`).
+//!
+//! In memory a tree is a list of numbered slots. Each slot has an object and the numbers of its children by name,
+//! as a directory has inode numbers.
 #![tactic(auto)]
 
 mod apply;
 mod binary_search;
 mod builder;
 mod children;
+mod content;
 mod edits;
 mod fused;
-mod keyed_name;
 mod mem_tree;
-mod rare_children;
 mod slot;
 mod slots;
+mod sought_name;
 mod walk;
 
 pub use apply::parts_fit;

@@ -24,13 +24,16 @@ use pv_steps::{Kind, Node, Object, Step, Tree, TreeFault};
 use std::alloc::{AllocError, Global};
 use std::marker::Model;
 
-/// A tree in memory, with the steps done since it was made. Clauses see `files` and `steps`.
+/// A file tree in memory, together with the list of the steps done on it since it was made.
+///
+/// In contracts, a value has two parts: `files`, the map from paths to objects, and `steps`, the list of recorded
+/// steps.
 #[derive(Drop)]
 pub struct MemTree {
     alloc: Global,
     /// The root has the number 0.
     slots: Vec<Slot>,
-    /// The numbers of slots to which no path leads.
+    /// The numbers of the slots to which no path leads.
     free: Vec<usize>,
     steps: Vec<Step>,
     ghost tree: { IsTree (files_of slots.items) } by { tree_prop (files_of slots.items) },
@@ -50,7 +53,10 @@ impl Model for MemTree {
 }
 
 impl MemTree {
-    /// The tree of a root alone, with no step recorded.
+    /// Returns a tree that has only a root, with no step recorded.
+    ///
+    /// `root` is the node of the root. Its kind must be `Directory`, and its parts must fit each other (`IsObject` in
+    /// pv_steps). The only error is `AllocError`.
     pub fn new(alloc: Global, root: Node) -> Result<MemTree, AllocError>
         requires kind { root.kind ≡ Directory }
         requires object { IsObject (record { node = root; payload = [] }) }
@@ -61,7 +67,7 @@ impl MemTree {
         Ok(MemTree::of(alloc, slots, Vec::new(alloc)))
     }
 
-    /// The tree of slots, with no step recorded. It takes no memory.
+    /// Returns the tree that slots hold, with no step recorded. The call does not allocate.
     pub(crate) fn of(alloc: Global, slots: Vec<Slot>, free: Vec<usize>) -> MemTree
         requires { IsTreeOf slots.items free.items }
         ensures files { result.files ≡ files_of slots.items }
@@ -75,8 +81,13 @@ impl MemTree {
         }
     }
 
-    /// Adds an object at an absent path in a directory, with its timestamps as they are, and records no step. After
-    /// running out of memory the tree is as before.
+    /// Adds an object at an absent path whose parent is a directory, and records no step.
+    ///
+    /// The timestamps of the new object are those of `node`. The directory is not changed. `payload` is the bytes of a
+    /// file or the target of a link. It must be empty for any other kind. Node and payload must fit each other
+    /// (`IsObject` in pv_steps).
+    ///
+    /// The only error is `AllocError`. The tree is then as before.
     pub fn add(&mut self, path: &TreePath, node: Node, payload: &[u8]) -> Result<(), AllocError>
         requires room { HasRoom (places self.old.files) path.now }
         requires object { IsObject (record { node = node; payload = payload.now }) }
@@ -89,7 +100,7 @@ impl MemTree {
         self.add_object(path, Object { node, payload })
     }
 
-    /// Adds an object whose payload is taken over at an absent path in a directory.
+    /// Adds an object at an absent path in a directory, and takes over its payload without copying it.
     fn add_object(&mut self, path: &TreePath, object: Object) -> Result<(), AllocError>
         requires room { HasRoom (places self.old.files) path.now }
         requires object { IsObject object }
@@ -102,30 +113,35 @@ impl MemTree {
         Ok(())
     }
 
-    /// The node at a path, or nothing if the path is absent. It takes no memory.
+    /// Returns the node of the object at a path, or `None` if the path is absent. The call does not allocate.
     pub fn node_at(&self, path: &TreePath) -> Option<&Node>
         ensures node { option_copied result ≡ node_at self.now.files path.now }
         ensures tree { IsTree self.now.files }
     {
         match slot_at(&self.slots, path) {
-            Some(slot) => Some(&slot.object.node),
+            Some(slot) => Some(&slot.node),
             None => None,
         }
     }
 
-    /// The kind of the object at the path of some names, or nothing if it is absent. It takes no memory.
+    /// Returns the kind of the object at the path of these names, or `None` if the path is absent. The call does not
+    /// allocate.
+    ///
+    /// `names` are the components from the root on, so an empty slice is the root.
     pub fn kind_at(&self, names: &[Name]) -> Option<Kind>
         ensures kind { result ≡ kind_of (places self.now.files names.now) }
         ensures tree { IsTree self.now.files }
     {
         match slot_of(&self.slots, names) {
-            Some(slot) => Some(slot.object.node.kind),
+            Some(slot) => Some(slot.node.kind),
             None => None,
         }
     }
 
-    /// Gives the object at the path of some names, if it is present, another node of its kind. Its payload and what
-    /// lies below it stay. It records no step, and takes no memory.
+    /// Replaces the node of the object at the path of these names. If the path is absent, the call does nothing.
+    ///
+    /// The new node must be of the same kind and fit the payload. The payload and everything below the path stay. The
+    /// call records no step, and does not allocate.
     pub fn set_node(&mut self, names: &[Name], node: Node)
         requires { IfSome (places self.old.files names.now) (MayHave node) }
         ensures places { places self.new.files ≡ on_at names.now (with_node node) (places self.old.files) }
@@ -134,29 +150,32 @@ impl MemTree {
         set_node_at(&mut self.slots, names, node);
     }
 
-    /// The names in a directory, in byte order.
+    /// Returns the names in the directory at a path, in byte order. At the path there must be a directory. The only
+    /// error is `AllocError`.
     pub fn names_at(&self, alloc: Global, path: &TreePath) -> Result<NameList, AllocError>
         requires { IsKind Directory self.now.files path.now }
         ensures { IfOk result (λ names. names ≡ names_below self.now.files path.now) }
     {
         match slot_at(&self.slots, path) {
-            Some(slot) => slot.children.names(alloc),
+            Some(slot) => slot.content.names(alloc),
             None => unreachable!(),
         }
     }
 
-    /// The bytes of a file, the target of a link, or no bytes for what is neither; nothing if the path
-    /// is absent. It takes no memory.
+    /// Returns the bytes of a file or the target of a link, and an empty slice for an object of another kind. The call
+    /// does not allocate.
+    ///
+    /// The answer is `None` if the path is absent.
     pub fn payload_at(&self, path: &TreePath) -> Option<&[u8]>
         ensures { option_copied result ≡ payload_at self.now.files path.now }
     {
         match slot_at(&self.slots, path) {
-            Some(slot) => Some(slot.object.payload.as_slice()),
+            Some(slot) => Some(slot.content.payload()),
             None => None,
         }
     }
 
-    /// A walk over the tree, which stands at the root.
+    /// Returns a walk over all objects of the tree, which begins at the root. The only error is `AllocError`.
     pub fn walk(&self, alloc: Global) -> Result<Walk<'_>, AllocError>
         ensures entries { IfOk result (λ walk. walk ≡ fin.entries self.now.files) }
         ensures tree { IsTree self.now.files }
@@ -164,7 +183,7 @@ impl MemTree {
         Walk::of(alloc, &self.slots)
     }
 
-    /// How many steps were done since the tree was made. It takes no memory.
+    /// Returns the number of steps done since the tree was made. The call does not allocate.
     pub fn step_count(&self) -> usize
         ensures { result ≡ length self.now.steps }
     {
@@ -216,7 +235,7 @@ impl Tree for MemTree {
         ensures unrecorded { OnErr result (self.new.steps ≡ self.old.steps) }
         ensures fits { StepFits step.now }
 
-        // It has no faults: running out of memory alone can stop it.
+        // It refuses no step: the only error is that memory ran out.
         ensures cause { IsErrOf result Failed → ⊥ }
         ensures counted { 0 ≡ faults_after (refused result) 0 }
     {

@@ -1,6 +1,7 @@
 //! The slots of the tree: where a path leads among them, and the edits of one slot.
 ghost use Rattle.std.specs.Prelude.{◌≡◌, ◌≢◌, ℕ, ◌+◌, ◌-◌, ◌<◌, ◌≤◌, List, [], ◌∷◌, ◌++◌, length, take, vec_len, vec_capacity, Some, None, IfOk, OnOk, OnErr, slice_get};
 ghost use Rattle.std.specs.Option.{option_copied, option_map};
+ghost use Rattle.std.specs.FinMap as fin;
 ghost use Rattle.pv_path.specs.Paths.{parent_of};
 ghost use Rattle.pv_steps.specs.declared.node.Kind.TheVariants.{Directory};
 ghost use Rattle.pv_steps.specs.Objects.{IsObject, is_directory, modified, changed};
@@ -8,12 +9,12 @@ ghost use Rattle.pv_steps.specs.Trees.{IsPresentIn};
 ghost use Rattle.pv_tree.specs.Changes.{change_of, with_node};
 ghost use Rattle.pv_tree.specs.Edges.{IsSet, IsChanged, IsPlaced};
 ghost use Rattle.pv_tree.specs.Held.{root_alone};
-ghost use Rattle.pv_tree.specs.Slots.{child_in, files_of, object_in, number_in, slot_in, places_in, next_number, IsTreeOf};
+ghost use Rattle.pv_tree.specs.Slots.{child_in, files_of, object_in, object_of, number_in, slot_in, places_in, next_number, IsTreeOf};
 
-use crate::rare_children::RareChildren;
+use crate::content::Content;
 use crate::slot::{Slot, change, note_content, note_name, put_node};
 use pv_path::{Bytes, Name, TreePath};
-use pv_steps::{Node, Object, Step};
+use pv_steps::{Node, Step};
 use std::alloc::{AllocError, Global};
 
 /// The number of the child that a slot has by a name, or nothing if it has none.
@@ -21,7 +22,7 @@ pub(crate) fn child_of(slots: &Vec<Slot>, number: usize, name: &Name) -> Option<
     ensures { result ≡ child_in slots.now.items number name.now }
 {
     match slots.get(number) {
-        Some(slot) => slot.children.get(name),
+        Some(slot) => slot.content.get(name),
         None => None,
     }
 }
@@ -42,7 +43,7 @@ pub(crate) fn is_directory_in(slots: &Vec<Slot>, number: usize) -> bool
     requires { number < length slots.now.items }
     ensures { option_map (λ o. is_directory o.node.kind) (object_in slots.now.items number) ≡ Some result }
 {
-    slots[number].object.node.kind.is_directory()
+    slots[number].node.kind.is_directory()
 }
 
 /// The slot at the path of some names, or nothing if it is absent.
@@ -114,7 +115,7 @@ pub(crate) fn put_child(
     ensures capacity { vec_capacity slots.new ≡ vec_capacity slots.old }
 {
     let slot = &mut slots[number];
-    slot.children.put(name, child)
+    slot.content.put(name, child)
 }
 
 /// Takes a child out of a slot, and gives back its number, if there is one.
@@ -126,7 +127,7 @@ pub(crate) fn remove_child(slots: &mut Vec<Slot>, number: usize, name: &Name) ->
     ensures length { length slots.new.items ≡ length slots.old.items }
 {
     let slot = &mut slots[number];
-    slot.children.remove(name)
+    slot.content.remove(name)
 }
 
 /// Notes at a directory that it gained or lost a child.
@@ -137,7 +138,7 @@ pub(crate) fn touch(slots: &mut Vec<Slot>, number: usize, now: u64)
     ensures length { length slots.new.items ≡ length slots.old.items }
 {
     let slot = &mut slots[number];
-    note_content(&mut slot.object, now);
+    note_content(slot, now);
 }
 
 /// Notes at an object that it got a new name.
@@ -148,7 +149,7 @@ pub(crate) fn renew(slots: &mut Vec<Slot>, number: usize, now: u64)
     ensures length { length slots.new.items ≡ length slots.old.items }
 {
     let slot = &mut slots[number];
-    note_name(&mut slot.object, now);
+    note_name(slot, now);
 }
 
 /// Does a step that changes the object with a number. After running out of memory the slots are as before.
@@ -166,7 +167,7 @@ pub(crate) fn change_slot(
     ensures length { length slots.new.items ≡ length slots.old.items }
 {
     let slot = &mut slots[number];
-    change(&mut slot.object, step, now)
+    change(slot, step, now)
 }
 
 /// Gives the object with a number another node.
@@ -177,7 +178,7 @@ pub(crate) fn set_node(slots: &mut Vec<Slot>, number: usize, node: Node)
     ensures length { length slots.new.items ≡ length slots.old.items }
 {
     let slot = &mut slots[number];
-    put_node(&mut slot.object, node);
+    put_node(slot, node);
 }
 
 /// The number that the next new slot gets.
@@ -190,21 +191,18 @@ pub(crate) fn next_number(slots: &Vec<Slot>, free: &Vec<usize>) -> usize
     }
 }
 
-/// Gives an object without children the next number. With room it takes no memory.
-pub(crate) fn place(alloc: Global, slots: &mut Vec<Slot>, free: &mut Vec<usize>, object: Object)
+/// Gives a slot without children the next number. With room it takes no memory.
+pub(crate) fn place(slots: &mut Vec<Slot>, free: &mut Vec<usize>, slot: Slot)
+    requires childless { slot.content.children ≡ fin.empty }
     requires room { vec_len slots.old < vec_capacity slots.old }
     requires within { (i : ℕ) → slice_get free.old.items (length free.old.items - 1) ≡ Some i
         → i < length slots.old.items }
-    ensures placed { IsPlaced (next_number slots.old.items free.old.items) object
+    ensures placed { IsPlaced (next_number slots.old.items free.old.items) (object_of slot)
         (child_in slots.old.items) (object_in slots.old.items) (child_in slots.new.items) (object_in slots.new.items) }
     ensures free { free.new.items ≡ take (length free.old.items - 1) free.old.items }
     ensures length { length slots.old.items ≤ length slots.new.items }
     ensures number { next_number slots.old.items free.old.items < length slots.new.items }
 {
-    let slot = Slot {
-        object,
-        children: RareChildren::new(alloc),
-    };
     match free.pop() {
         Some(number) => slots[number] = slot,
         None => push_within(slots, slot),
@@ -218,14 +216,11 @@ pub(crate) fn root_slots(alloc: Global, root: Node) -> Result<Vec<Slot>, AllocEr
     ensures tree { IfOk result (λ slots. IsTreeOf slots.items []) }
     ensures files { IfOk result (λ slots. files_of slots.items ≡ root_alone root) }
 {
-    let object = Object {
-        node: root,
-        payload: Bytes::new(alloc),
-    };
+    let content = Content::of(alloc, Bytes::new(alloc))?;
     let mut slots = Vec::new(alloc);
     slots.push(Slot {
-        object,
-        children: RareChildren::new(alloc),
+        node: root,
+        content,
     })?;
     Ok(slots)
 }

@@ -4,32 +4,32 @@ ghost use Rattle.std.specs.Option.{option_copied, option_map};
 ghost use Rattle.pv_tree.specs.Slots.{IsForest, entries_in};
 ghost use Rattle.pv_tree.specs.Walks.{IsWay, children_in, left_in};
 
-use crate::keyed_name::KeyedName;
 use crate::slot::Slot;
 use pv_path::Name;
 use pv_steps::Node;
 use std::alloc::{AllocError, Global};
 use std::marker::Model;
 
-/// The object at a path of a tree.
+/// One object of a tree that is walked: its path, its node and its payload.
 #[derive(Clone, Copy)]
 pub struct WalkEntry<'a> {
-    /// The names of the path.
+    /// The components of the path from the root on. The slice is empty for the root.
     pub names: &'a [Name],
     /// The node of the object.
     pub node: &'a Node,
-    /// The bytes of a file or the target of a link, otherwise no bytes.
+    /// The bytes of a file or the target of a link; empty for other kinds.
     pub payload: &'a [u8],
 }
 
-/// A walk over all objects of a tree, in the order of their paths. Clauses see the paths and objects that are
-/// left, the present one first.
+/// A walk over all objects of a tree in the order of their paths: a directory comes before what is in it.
+///
+/// In contracts, a value is the list of the paths and objects that are left, the current one first.
 #[derive(Drop)]
 pub struct Walk<'a> {
     slots: &'a Vec<Slot>,
-    /// The path of the present object.
+    /// The path of the current object.
     names: Vec<Name>,
-    /// The slots from the root to the present object, each with the place of the child where the walk goes on.
+    /// The slots from the root to the current object. With each goes the index of the child where the walk goes on.
     opened: Vec<(usize, usize)>,
 }
 
@@ -47,7 +47,7 @@ impl<'a> Model for Walk<'a> {
 }
 
 impl<'a> Walk<'a> {
-    /// A walk over slots that make a tree, which stands at the root.
+    /// Returns a walk that begins at the root, over slots that make a tree.
     pub(crate) fn of(alloc: Global, slots: &'a Vec<Slot>) -> Result<Walk<'a>, AllocError>
         requires { IsForest slots.now.items }
         ensures { IfOk result (λ walk. walk ≡ entries_in (length slots.now.items) slots.now.items 0) }
@@ -61,25 +61,30 @@ impl<'a> Walk<'a> {
         })
     }
 
-    /// Where the walk stands, or nothing at its end. It takes no memory.
+    /// Returns the current object of the walk, or `None` if the walk is at its end. The call does not allocate.
+    ///
+    /// For example, the first answer for a new walk is the root.
     pub fn place(&self) -> Option<WalkEntry<'_>>
         ensures { option_map (λ p. (p.names.now, record { node = p.node.now; payload = p.payload.now })) result
             ≡ slice_get self.now 0 }
     {
         match self.opened.last() {
             Some(last) => {
-                let object = &self.slots[last.0].object;
+                let slot = &self.slots[last.0];
                 Some(WalkEntry {
                     names: self.names.as_slice(),
-                    node: &object.node,
-                    payload: object.payload.as_slice(),
+                    node: &slot.node,
+                    payload: slot.content.payload(),
                 })
             }
             None => None,
         }
     }
 
-    /// Goes on to the next path. After running out of memory the walk is at its end.
+    /// Goes on to the next object. The only error is `AllocError`.
+    ///
+    /// After the last object the walk is at its end, where `advance` does nothing. After an error the walk is at
+    /// its end, too.
     pub fn advance(&mut self) -> Result<(), AllocError>
         ensures ok { OnOk result (self.new ≡ drop 1 self.old) }
         ensures err { OnErr result (self.new ≡ []) }
@@ -94,24 +99,24 @@ impl<'a> Walk<'a> {
     }
 }
 
-/// The child of a slot at a place in the order of the names, if there is one.
-fn child_at(slots: &Vec<Slot>, number: usize, i: usize) -> Option<&(KeyedName, usize)>
+/// Returns the child of a slot at an index in the order of the names, if there is one.
+fn child_at(slots: &Vec<Slot>, number: usize, i: usize) -> Option<&(Name, usize)>
     ensures child { option_copied result ≡ slice_get (children_in slots.now.items number) i }
     ensures within { IfSome result (λ _. i + 1 < 2 ^ 64) }
 {
     match slots.get(number) {
-        Some(slot) => slot.children.child(i),
+        Some(slot) => slot.content.child(i),
         None => None,
     }
 }
 
-/// Opens a child of the deepest slot, in which the walk then goes on with the one after it.
+/// Opens a child of the deepest open slot. After this child, the walk goes on with the next one.
 fn open_child(
     names: &mut Vec<Name>,
     opened: &mut Vec<(usize, usize)>,
     number: usize,
     next: usize,
-    child: &(KeyedName, usize),
+    child: &(Name, usize),
 ) -> Result<(), AllocError>
     requires { next + 1 < 2 ^ 64 }
     ensures names { OnOk result (names.new.items ≡ names.old.items ++ child.now.0 ∷ []) }
@@ -120,7 +125,7 @@ fn open_child(
 {
     opened.push((number, next + 1))?;
     opened.push((child.1, 0))?;
-    names.push(child.0.name().copy()?)?;
+    names.push(child.0.copy()?)?;
     Ok(())
 }
 

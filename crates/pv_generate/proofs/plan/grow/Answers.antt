@@ -1,5 +1,5 @@
-use Rattle.std.proofs.Common.{◌≡◌, ◌∙◌, [], ap, sym, subst}
-use Rattle.pv_steps.specs.Trees.{Files, IsTree}
+use Rattle.std.proofs.Common.{◌≡◌, ◌∙◌, [], sym, subst}
+use Rattle.pv_steps.specs.Trees.{IsTree}
 use Rattle.pv_tree.specs.Growth.{Grown}
 use Rattle.pv_tree.specs.Held.{root_alone}
 use Rattle.pv_tree.proofs.GrowLaws.{IsGrowing, all_grown, grown, has_parent, is_object, root_directory, root_whole, some_planned, start}
@@ -32,19 +32,19 @@ loop-path-init c =
     let built = subst (λ (g : Grown). IsGrowing (held c.args.objects.entries) g.files g.last left) (sym c.in_ok-builder.ensures) all in
     subst (λ (es : Planned). IsGrowing (held c.args.objects.entries) c.in_ok-builder.builder.files c.in_ok-builder.builder.last es) (sym c.into_iter-path-iterator.ensures.into_iter_gives.0) built
 
-pub add-requires-clause-object : goal.add-requires-clause-object
-add-requires-clause-object c =
+pub add_next-requires-clause-object : goal.add_next-requires-clause-object
+add_next-requires-clause-object c =
     is_object (held c.args.objects.entries) c.loop-path.builder.files c.loop-path.builder.last c.in-Some-2.path c.in-Some-2.object c.next.new.self
     (subst (λ (es : Planned). IsGrowing (held c.args.objects.entries) c.loop-path.builder.files c.loop-path.builder.last es) c.in-Some-2.ensures.steps c.loop-path.invariant) c.requires
 
-pub add-requires-clause-parent : goal.add-requires-clause-parent
-add-requires-clause-parent c =
+pub add_next-requires-clause-parent : goal.add_next-requires-clause-parent
+add_next-requires-clause-parent c =
     has_parent (held c.args.objects.entries) c.loop-path.builder.files c.loop-path.builder.last c.in-Some-2.path c.in-Some-2.object c.next.new.self
     (subst (λ (es : Planned). IsGrowing (held c.args.objects.entries) c.loop-path.builder.files c.loop-path.builder.last es) c.in-Some-2.ensures.steps c.loop-path.invariant) c.requires
 
 pub loop-path-preserved : goal.loop-path-preserved
 loop-path-preserved c =
-    subst (λ (g : Grown). IsGrowing (held c.args.objects.entries) g.files g.last c.next.new.self) (sym c.in_ok-add.ensures)
+    subst (λ (g : Grown). IsGrowing (held c.args.objects.entries) g.files g.last c.next.new.self) (sym c.in_ok-add_next.ensures.ok)
     (grown (held c.args.objects.entries) c.loop-path.builder.files c.loop-path.builder.last c.in-Some-2.path c.in-Some-2.object c.next.new.self
     (subst (λ (es : Planned). IsGrowing (held c.args.objects.entries) c.loop-path.builder.files c.loop-path.builder.last es) c.in-Some-2.ensures.steps c.loop-path.invariant))
 

@@ -1,13 +1,12 @@
-use Rattle.std.proofs.Common.{ap, refl, ◌∙◌, ◌≡◌, ◌++◌, ◌∷◌, [], codes}
+use Rattle.std.proofs.Common.{refl, ◌≡◌, []}
 use Rattle.std.specs.FinMap as fin
-use Rattle.pv_path.specs.Paths.{Path}
 use Rattle.pv_generate.specs.Trees.{data_path, directory, etc_path, folder_path}
 use Rattle.pv_generate.proofs.TreeLaws.{folders_are, put_next, root_only, with_etc, with_folder}
 use Rattle.pv_generate.proofs.tree.folders_alone.Goals as goal
 
 pub returns : goal.returns
 returns c =
-    let etc = c.in_ok-etc.ensures ∙ ap (λ (p : Path). p ++ codes "etc" ∷ []) c.root-root.ensures in
+    let etc = c.in_ok-etc.ensures in
     let one : c.add_directory.new.plan ≡ root_only =
     put_next c.new-plan.result c.add_directory.new.plan fin.empty root_only c.root-root.result [] directory directory c.in_ok-add_directory.ensures c.new-plan.ensures c.root-root.ensures refl refl in
     let two : c.add_directory-2.new.plan ≡ with_etc =

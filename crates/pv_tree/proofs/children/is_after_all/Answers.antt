@@ -13,4 +13,4 @@ pub returns-in-Some : goal.returns-in-Some
 returns-in-Some c = λ h.
     after_last c.args.name.now c.args.entries.now.items c.in-Some.last.now c.requires
     (last_at c.args.entries.now.items c.args.entries.now.len c.in-Some.last.now c.args.entries.now.ok.0 (c.in-Some.ensures.variant.0 refl) c.in-Some.ensures.lookup)
-    (sym c.order.ensures ∙ name_before c.order.result c.is_lt.result c.is_lt.ensures h)
+    (sym c.order_of.ensures ∙ name_before c.order_of.result c.is_lt.result c.is_lt.ensures h)

@@ -1,4 +1,4 @@
-use Rattle.std.proofs.Common.{◌≡◌, ℕ, List, ap, subst, ◌∙◌}
+use Rattle.std.proofs.Common.{ℕ, List, ap, ◌∙◌}
 use Rattle.std.specs.FinMap.{find}
 use Rattle.pv_path.specs.Names.{name_cmp}
 use Rattle.pv_tree.specs.Children.{without}

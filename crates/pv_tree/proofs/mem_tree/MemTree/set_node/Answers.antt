@@ -1,4 +1,4 @@
-use Rattle.std.proofs.Common.{ap, ◌∙◌}
+use Rattle.std.proofs.Common.{ap}
 use Rattle.pv_tree.specs.Changes.{with_node}
 use Rattle.pv_tree.specs.Held.{Held}
 use Rattle.pv_tree.proofs.NodeLaws.{set_places, set_tree}

@@ -1,5 +1,5 @@
--- The keys of names: where they differ they are in the order of the names, and a key that ends in a zero byte is that of
--- one name alone.
+-- The heads of names: where they differ they are in the order of the names, and a head that ends in a zero byte is that
+-- of one name alone.
 use Rattle.std.proofs.Common.{◌≡◌, ℕ, suc, zero, ◌+◌, ◌*◌, ◌%◌, ◌<◌, ◌≤◌, List, [], ◌∷◌, length, true, refl, sym, ap, subst, ◌∙◌, arith}
 use Rattle.std.proofs.lemmas.Bool.Decides.{nat_tests}
 use Rattle.std.proofs.lemmas.Cmp.{ranked}
@@ -11,7 +11,8 @@ use Rattle.pv_path.specs.Names.{is_name, is_name_byte, name_cmp}
 use Rattle.pv_path.proofs.PathLaws.{is_name-parts}
 use Rattle.std.proofs.lemmas.Bool.{and_parts}
 use Rattle.std.specs.Bool.{⊤}
-use Rattle.pv_tree.specs.Keys.{key_of, IsKeyed}
+use Rattle.pv_path.specs.Heads.{head_of}
+use Rattle.pv_tree.specs.Heads.{IsHead}
 use Rattle.pv_tree.proofs.Names.{reversed}
 
 -- bytes of a name: no NUL is among them
@@ -38,16 +39,16 @@ joined zero xs a = a
 joined (suc n) [] a = joined n [] (a * 256)
 joined (suc n) (x ∷ xs) a = joined n xs (a * 256 + x)
 
-key_is : (xs : List ℕ) → key_of xs ≡ joined 8 xs 0
-key_is [] = omega arith
-key_is (a ∷ []) = omega arith
-key_is (a ∷ b ∷ []) = omega arith
-key_is (a ∷ b ∷ c ∷ []) = omega arith
-key_is (a ∷ b ∷ c ∷ d ∷ []) = omega arith
-key_is (a ∷ b ∷ c ∷ d ∷ e ∷ []) = omega arith
-key_is (a ∷ b ∷ c ∷ d ∷ e ∷ f ∷ []) = omega arith
-key_is (a ∷ b ∷ c ∷ d ∷ e ∷ f ∷ g ∷ []) = omega arith
-key_is (a ∷ b ∷ c ∷ d ∷ e ∷ f ∷ g ∷ h ∷ xs) = omega arith
+head_is : (xs : List ℕ) → head_of xs ≡ joined 8 xs 0
+head_is [] = omega arith
+head_is (a ∷ []) = omega arith
+head_is (a ∷ b ∷ []) = omega arith
+head_is (a ∷ b ∷ c ∷ []) = omega arith
+head_is (a ∷ b ∷ c ∷ d ∷ []) = omega arith
+head_is (a ∷ b ∷ c ∷ d ∷ e ∷ []) = omega arith
+head_is (a ∷ b ∷ c ∷ d ∷ e ∷ f ∷ []) = omega arith
+head_is (a ∷ b ∷ c ∷ d ∷ e ∷ f ∷ g ∷ []) = omega arith
+head_is (a ∷ b ∷ c ∷ d ∷ e ∷ f ∷ g ∷ h ∷ xs) = omega arith
 
 -- what differs stays so, whatever comes after
 apart : (n : ℕ) (xs ys : List ℕ) (a b : ℕ) → Plain xs → a < b → joined n xs a < joined n ys b
@@ -102,25 +103,25 @@ ends zero (x ∷ xs) a s h = absurd (omega (arith, s.0, s.1, h))
 ends (suc n) [] a s h = omega arith
 ends (suc n) (x ∷ xs) a s h = omega (arith, ends n xs (a * 256 + x) s.2 h)
 
--- ---- keys
+-- ---- heads
 
-key_less : (k l : ℕ) (xs ys : List ℕ) → IsKeyed k xs → IsKeyed l ys → k < l → name_cmp xs ys ≡ Less
-key_less k l xs ys s t h = joined_less 8 xs ys 0 (plain xs s.named) (plain ys t.named) (omega (arith, h, s.made, t.made, key_is xs, key_is ys))
+head_less : (k l : ℕ) (xs ys : List ℕ) → IsHead k xs → IsHead l ys → k < l → name_cmp xs ys ≡ Less
+head_less k l xs ys s t h = joined_less 8 xs ys 0 (plain xs s.named) (plain ys t.named) (omega (arith, h, s.made, t.made, head_is xs, head_is ys))
 
-key_same : (k l : ℕ) (xs ys : List ℕ) → IsKeyed k xs → IsKeyed l ys → k ≡ l → k % 256 ≡ 0 → name_cmp xs ys ≡ Equal
-key_same k l xs ys s t h zero_byte =
-    let one : joined 8 xs 0 ≡ k = sym (s.made ∙ key_is xs) in
-    let other : joined 8 ys 0 ≡ k = sym (h ∙ t.made ∙ key_is ys) in
+head_same : (k l : ℕ) (xs ys : List ℕ) → IsHead k xs → IsHead l ys → k ≡ l → k % 256 ≡ 0 → name_cmp xs ys ≡ Equal
+head_same k l xs ys s t h zero_byte =
+    let one : joined 8 xs 0 ≡ k = sym (s.made ∙ head_is xs) in
+    let other : joined 8 ys 0 ≡ k = sym (h ∙ t.made ∙ head_is ys) in
     let first = ends 7 xs 0 (plain xs s.named) (ap (λ v. v % 256) one ∙ zero_byte) in
     let second = ends 7 ys 0 (plain ys t.named) (ap (λ v. v % 256) other ∙ zero_byte) in
     joined_same 8 xs ys 0 (plain xs s.named) (plain ys t.named) (omega (arith, first)) (omega (arith, second)) (one ∙ sym other)
 
--- what two keys tell of the order of the names that clauses see
-pub told_less : (k l : ℕ) (xs ys a b : List ℕ) → IsKeyed k xs → IsKeyed l ys → xs ≡ a → ys ≡ b → k < l → Less ≡ name_cmp a b
-told_less k l xs ys a b s t p q is = sym (key_less k l xs ys s t is) ∙ ap (λ v. name_cmp v ys) p ∙ ap (name_cmp a) q
+-- what the heads of a name and of one that is sought tell of their order
+pub told_less : (k l : ℕ) (xs ys : List ℕ) → k ≡ head_of xs → is_name xs ≡ true → IsHead l ys → k < l → Less ≡ name_cmp xs ys
+told_less k l xs ys made named t is = sym (head_less k l xs ys (record { made = made; named = named }) t is)
 
-pub told_greater : (k l : ℕ) (xs ys a b : List ℕ) → IsKeyed k xs → IsKeyed l ys → xs ≡ a → ys ≡ b → l < k → Greater ≡ name_cmp a b
-told_greater k l xs ys a b s t p q is = sym (reversed ys xs Less (key_less l k ys xs t s is)) ∙ ap (λ v. name_cmp v ys) p ∙ ap (name_cmp a) q
+pub told_greater : (k l : ℕ) (xs ys : List ℕ) → k ≡ head_of xs → is_name xs ≡ true → IsHead l ys → l < k → Greater ≡ name_cmp xs ys
+told_greater k l xs ys made named t is = sym (reversed ys xs Less (head_less l k ys xs t (record { made = made; named = named }) is))
 
-pub told_equal : (k l : ℕ) (xs ys a b : List ℕ) → IsKeyed k xs → IsKeyed l ys → xs ≡ a → ys ≡ b → l ≤ k → k ≤ l → k % 256 ≡ 0 → Equal ≡ name_cmp a b
-told_equal k l xs ys a b s t p q least most short = sym (key_same k l xs ys s t (omega (arith, least, most)) short) ∙ ap (λ v. name_cmp v ys) p ∙ ap (name_cmp a) q
+pub told_equal : (k l : ℕ) (xs ys : List ℕ) → k ≡ head_of xs → is_name xs ≡ true → IsHead l ys → l ≤ k → k ≤ l → k % 256 ≡ 0 → Equal ≡ name_cmp xs ys
+told_equal k l xs ys made named t least most short = sym (head_same k l xs ys (record { made = made; named = named }) t (omega (arith, least, most)) short)
