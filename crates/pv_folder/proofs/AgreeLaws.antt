@@ -65,10 +65,6 @@ no_other : (o : Option Object) → real_of o ≡ Some host.Other → ⊥
 no_other None e = cc
 no_other (Some o) e = other_as o.node.kind o.payload e
 
--- a change of an object that leaves its kind and its payload
-Stays : (Object → Object) → Type 0
-Stays f = (o : Object) → real_as (f o).node.kind (f o).payload ≡ real_as o.node.kind o.payload
-
 pub real-mapped : (f : Object → Object) → ((o : Object) → real_as (f o).node.kind (f o).payload ≡ real_as o.node.kind o.payload) → (o : Option Object)
     → real_of (option_map f o) ≡ real_of o
 real-mapped f stays None = refl

@@ -261,19 +261,3 @@ module _ (old : Files) where
       ap (λ (u : Places). kind_of (u path)) after
       ∙ kind_of-touched 0 path (steps.put_at path (Some (objects.fresh kind.File 0o600 [] 0 0 0)) (places old)) path
       ∙ ap (λ b. kind_of (if b then Some (objects.fresh kind.File 0o600 [] 0 0 0) else places old path)) (same_path-refl path)
-
--- at one path the last object stands
-put_twice : (path : Path) (a b : Option HostObject) (t : Held) → put_at path a (put_at path b t) ≡ put_at path a t
-put_twice path a b t = λ j q. by (same_path path q) q j
-  where
-    by : (c : Bool) (q : Path) → (if c then a else (if c then b else t q)) ≡ (if c then a else t q)
-    by true q = refl
-    by false q = refl
-
--- a file that was made and then written has come to stand there
-pub written_anew : (old copy mid new : Files) (path at : Path) (content : List ℕ) → copy ≡ old → at ≡ path → Becomes (host.WriteFile at []) copy mid → Becomes (host.WriteFile path content) mid new → Becomes (host.WriteFile path content) old new
-written_anew old copy mid new path at content same there made written =
-    written
-    ∙ ap (put_at path (Some (host.File content))) (made ∙ ap (λ (p : Path). put_at p (Some (host.File [])) (held (content_of copy))) there)
-    ∙ put_twice path (Some (host.File content)) (Some (host.File [])) (held (content_of copy))
-    ∙ ap (λ (f : Files). put_at path (Some (host.File content)) (held (content_of f))) same

@@ -10,7 +10,7 @@ use Rattle.pv_steps.proofs.TreeLaws.{no_rest_no_prefix}
 use Rattle.pv_folder.specs.declared.host.HostFault.{HostFault}
 use Rattle.pv_folder.specs.declared.item.HostKind.TheVariants as named
 use Rattle.pv_folder.specs.Content as host
-use Rattle.pv_folder.specs.Content.{Content, Held, HostObject, HasPlace, IsChanged, IsDirectory, MayAsk, May, changed, held, put_at}
+use Rattle.pv_folder.specs.Content.{Content, Held, HostObject, IsChanged, IsDirectory, MayAsk, May, changed, held, put_at}
 use Rattle.pv_folder.specs.Folders.{Agrees, IsFree, manifest_path, new_manifest_path, tree_path}
 use Rattle.pv_folder.specs.Keeping.{HasManifest, IsReady, IsSameButNew, with_manifest}
 use Rattle.pv_folder.proofs.BelowLaws.{below_some, beside, longer, same_path-below}
@@ -34,25 +34,12 @@ kept_at p q o t differ = ap (λ b. cond b o (t q)) differ
 pub put_here : (p : Path) (o : Option HostObject) (t : Held) → put_at p o t p ≡ o
 put_here p o t = ap (λ b. cond b o (t p)) (same_path-refl p)
 
-none_either : (b : Bool) (o : Option HostObject) → o ≡ None → cond b None o ≡ None
-none_either true o e = refl
-none_either false o e = e
-
 -- a content with a manifest written beside the old one
 abbrev pub written : Path → List ℕ → Held → Held
 written folder bytes t = put_at (new_manifest_path folder) (Some (host.File bytes)) t
 
 module _ (folder : Path) (bytes : List ℕ) (t : Held) (ready : IsReady folder t) where
   -- ---- writing
-
-  pub may_write_new : May t (host.WriteFile (new_manifest_path folder) bytes)
-  may_write_new = (
-    ready.prepared.new_manifest,
-    (
-      subst (λ (p : Path). IsDirectory t p) (sym (parent_of-push folder (codes "manifest.new"))) ready.place,
-      has_names-push folder (codes "manifest.new") ready.names refl,
-    ),
-  )
 
   -- at what has another name in the folder all is as before
   pub beside_new : (y : List ℕ) (s : Path) (o : Option HostObject) → same_bytes (codes "manifest.new") y ≡ false → put_at (new_manifest_path folder) o t (folder ++ y ∷ s) ≡ t (folder ++ y ∷ s)
@@ -193,19 +180,11 @@ module _ (folder : Path) (bytes : List ℕ) (t : Held) (ready : IsReady folder t
 
 -- ---- contents that are told or not
 
-told_write : (change : host.Change) (c : Content) (new : Option Content) → IsChanged change (Some c) new → (d : Content) × (new ≡ Some d) × (held d ≡ changed change (held c))
-told_write change c (Some d) is = (d, refl, same_Some (held d) (changed change (held c)) is)
-told_write change c None is = cc
-
 untold_write : (change : host.Change) (new : Option Content) → IsChanged change None new → new ≡ None
 untold_write change None is = refl
 untold_write change (Some d) is = cc
 
 module _ (folder : Path) (bytes : List ℕ) where
-  pub may_write : (old : Option Content) → IfSome old (λ c. IsReady folder (held c)) → MayAsk old (host.WriteFile (new_manifest_path folder) bytes)
-  may_write None ready = tt
-  may_write (Some c) ready = may_write_new folder bytes (held c) ready
-
   -- what is there once the new manifest is written
   module _ (old mid : Option Content) (wrote : IsChanged (host.WriteFile (new_manifest_path folder) bytes) old mid) where
     pub ready_mid : IfSome old (λ c. IsReady folder (held c)) → IfSome mid (λ c. IsReady folder (held c))
@@ -254,11 +233,6 @@ pub ready_with : (folder : Path) (bytes : List ℕ) (old new : Option Content) �
 ready_with folder bytes old None has ready = tt
 ready_with folder bytes None (Some n) has ready = cc
 ready_with folder bytes (Some c) (Some n) has ready = subst (λ (u : Held). IsReady folder u) (sym (same_Some (held n) _ has)) (ready_closed folder bytes (held c) ready)
-
--- nothing has changed
-pub same_but_none : (folder : Path) (old : Option Content) → IsSameButNew folder old old
-same_but_none folder None = refl
-same_but_none folder (Some c) = λ path other. refl
 
 -- ---- the tree is there as before
 

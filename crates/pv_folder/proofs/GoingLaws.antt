@@ -6,18 +6,17 @@ use Rattle.std.proofs.lemmas.Bool.Decides.{nat_tests}
 use Rattle.std.proofs.lemmas.List.{reverse-append, reverse-reverse}
 use Rattle.std.specs.FinMap as fin
 use Rattle.pv_path.specs.Names.{is_name}
-use Rattle.std.specs.Ordering.{is_lt}
-use Rattle.pv_path.specs.Paths.{Path, parent_of, path_cmp}
+use Rattle.pv_path.specs.Paths.{Path}
 use Rattle.pv_steps.specs.declared.node.Kind.TheVariants as node
 use Rattle.pv_steps.specs.Objects.{fresh}
-use Rattle.pv_steps.specs.Trees.{Files, IsKind}
+use Rattle.pv_steps.specs.Trees.{Files}
 use Rattle.pv_tree.specs.Growth.{Grown}
 use Rattle.pv_tree.specs.Held.{root_alone}
 use Rattle.pv_tree.proofs.GrowLaws.{all_grown}
 use Rattle.pv_folder.specs.declared.item.HostItem.{HostItem}
 use Rattle.pv_folder.specs.declared.item.HostKind.{HostKind}
 use Rattle.pv_folder.specs.declared.item.HostKind.TheVariants as kind
-use Rattle.pv_folder.specs.Content.{Content, Held, HostObject, IsAbsent, IsContent, IsDirectory, IsFile, held, items_in, kind_at, listing, listing_of}
+use Rattle.pv_folder.specs.Content.{Content, Held, HostObject, IsContent, IsDirectory, held, items_in, kind_at, listing, listing_of}
 use Rattle.pv_folder.specs.Content as host
 use Rattle.pv_folder.specs.Lists.{is_ordered}
 use Rattle.pv_folder.specs.declared.found.Found.{Found}
@@ -29,7 +28,7 @@ use Rattle.pv_folder.specs.Opening.{fault_among, is_over, most_bytes, most_objec
 use Rattle.pv_folder.specs.Reading.{Shows, found_below, found_in, is_directory, is_free, items_of, kind_named, lists_prepared, path_of, seen_object, seen_size}
 use Rattle.pv_folder.proofs.FolderLaws.{above, directory_present, kind_named-in}
 use Rattle.pv_folder.proofs.ReadingLaws.{IsReading, begun, listed, next_named, next_other, next_over, next_read, next_same}
-use Rattle.pv_folder.proofs.StackLaws.{IsStacked, next_after, next_parent, stacked_first, stacked_seen}
+use Rattle.pv_folder.proofs.StackLaws.{IsStacked, stacked_first, stacked_seen}
 
 -- ---- what is told
 
@@ -87,12 +86,6 @@ module _ (content : Option Content) (folder : Path) (objects bytes : ℕ) (files
   reading = from_content (λ c. IsReading folder c objects bytes files last (reverse (pending ++ x ∷ []))) (λ c. IsReading folder c objects bytes files last (x ∷ reverse pending)) content
       (λ c. subst (IsReading folder c objects bytes files last) (popped pending x)) g.reading
 
-  pub going_after : is_lt (path_cmp last (path_of x)) ≡ true
-  going_after = next_after files last x (reverse pending) stacked
-
-  pub going_parent : IsKind node.Directory files (parent_of (path_of x))
-  going_parent = next_parent files last x (reverse pending) stacked
-
   -- a name that is none, or another object, is the fault
   pub going_odd : (x.kind ≡ kind.Other) ⊎ (is_name x.name ≡ false) → IfSome content (Faulty folder (odd (path_of x)))
   going_odd why = from_content (λ c. IsReading folder c objects bytes files last (x ∷ reverse pending)) (Faulty folder (odd (path_of x))) content (λ c r. by c r why) reading
@@ -137,10 +130,6 @@ going_first content folder items ordered whole lists = record {
 }
 
 module _ (content : Option Content) (folder : Path) (objects bytes : ℕ) (files : Files) (last : Path) (g : IsGoing content folder objects bytes files last []) where
-  -- with which it ends
-  pub going_sound : IfSome content (λ c. fault_among 0 0 (objects_below folder c) ≡ None)
-  going_sound = from_content (λ c. IsReading folder c objects bytes files last []) (λ c. fault_among 0 0 (objects_below folder c) ≡ None) content (λ c r. r.fault) g.reading
-
   pub going_real : IfSome content (λ c. files ≡ real_in folder c)
   going_real = from_content (λ c. IsReading folder c objects bytes files last []) (λ c. files ≡ real_in folder c) content (λ c r. all_grown (real_in folder c) files last r.growing) g.reading
 

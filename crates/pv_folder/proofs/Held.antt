@@ -5,7 +5,7 @@ use Rattle.pv_path.specs.Paths.{Path, has_names, parent_of}
 use Rattle.pv_steps.specs.declared.node.Kind.TheVariants as kind
 use Rattle.pv_steps.specs.Trees.{Files, IsTree, kind_of, places}
 use Rattle.pv_folder.specs.Content as host
-use Rattle.pv_folder.specs.Content.{Content, HostObject, IsContent, IsPresent, bytes_of, held, kind_at, listing, listing_of}
+use Rattle.pv_folder.specs.Content.{Content, HostObject, IsContent, bytes_of, held, listing, listing_of}
 use Rattle.pv_folder.specs.Memory.{content_of}
 use Rattle.pv_folder.proofs.Seeing.{held_at}
 use Rattle.pv_folder.proofs.Changing.{directory_seen, present_at}

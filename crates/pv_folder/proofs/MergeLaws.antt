@@ -1,18 +1,18 @@
 -- Laws of a manifest merged with what is real: the object at each path, and that it is a tree.
-use Rattle.std.proofs.Common.{◌≡◌, ◌∙◌, ◌⊎◌, inl, inr, Bool, true, false, cond, List, [], ◌++◌, Option, Some, None, is_some, option_map, refl, sym, ap, subst, ℕ, ◌≤◌, lit≤}
+use Rattle.std.proofs.Common.{◌≡◌, ◌∙◌, ◌⊎◌, inl, inr, Bool, true, false, cond, List, ◌++◌, Option, Some, None, is_some, option_map, refl, sym, ap, subst, ℕ, ◌≤◌, lit≤}
 use Rattle.std.specs.FinMap as fin
 use Rattle.pv_acl.specs.Parts.{acl_of_mode, special_of}
-use Rattle.pv_path.specs.Paths.{Path, has_names, parent_of}
+use Rattle.pv_path.specs.Paths.{Path, parent_of}
 use Rattle.pv_steps.specs.declared.node.Kind.{Kind}
 use Rattle.pv_steps.specs.declared.node.Kind.TheVariants.{Directory, File, Link, Fifo, CharDevice, BlockDevice}
 use Rattle.pv_steps.specs.declared.node.Node.{Node}
 use Rattle.pv_steps.specs.declared.object.Object.{Object}
 use Rattle.pv_steps.specs.Objects.{AclFits, IsObject, PayloadFits}
-use Rattle.pv_steps.specs.Trees.{Files, IsKind, IsTree, kind_of, places}
+use Rattle.pv_steps.specs.Trees.{Files, kind_of, places}
 use Rattle.pv_steps.proofs.ObjectLaws.{IsObject-fresh}
 use Rattle.pv_steps.proofs.StepLaws.{among_keys, among_left, among_right, is_among, places-tabulate}
 use Rattle.pv_walk.specs.Nodes.{same_kind}
-use Rattle.pv_folder.specs.Merge.{with_metadata, is_real_kind, merged, merged_at, merged_of, plain, plain_mode}
+use Rattle.pv_folder.specs.Merge.{with_metadata, merged, merged_at, merged_of, plain, plain_mode}
 
 -- ---- the object at each path
 
@@ -95,55 +95,3 @@ metadata_again n payload r e m h = record {
   attrs = m.attrs;
   letters = m.letters;
 }
-
-IsObject-with_metadata : (m : Option Object) (r : Object) → ((o : Object) → m ≡ Some o → IsObject o) → IsObject r → IsObject (with_metadata (option_map (λ o. o.node) m) r)
-IsObject-with_metadata None r hm h = IsObject-plain r h
-IsObject-with_metadata (Some m) r hm h = by (same_kind m.node.kind r.node.kind) refl
-  where
-    by : (b : Bool) → same_kind m.node.kind r.node.kind ≡ b → IsObject (cond b (record r { node = m.node }) (plain r))
-    by true e = metadata_again m.node m.payload r (same_kind-exact m.node.kind r.node.kind e) (hm m refl) h
-    by false e = IsObject-plain r h
-
-some_same : {A : Type 0} (x y : A) → Some x ≡ Some y → x ≡ y
-some_same x y e = cc
-
-object_of-merged : (m r : Option Object) (p : Option Kind) (o : Object) → ((x : Object) → m ≡ Some x → IsObject x) → ((x : Object) → r ≡ Some x → IsObject x)
-    → merged_of m r p ≡ Some o → IsObject o
-object_of-merged m (Some r) p o hm hr e = subst IsObject (some_same _ _ e) (IsObject-with_metadata m r hm (hr r refl))
-object_of-merged (Some m) None (Some Directory) o hm hr e = by (is_real_kind m.node.kind) e
-  where
-    by : (b : Bool) → cond b None (Some m) ≡ Some o → IsObject o
-    by true wrong = cc
-    by false is = subst IsObject (some_same m o is) (hm m refl)
-object_of-merged (Some m) None p o hm hr e = cc
-object_of-merged None None p o hm hr e = cc
-
--- ---- the tree
-
--- what stands somewhere and is not real lies in a real directory
-in_directory : (m r : Option Object) (p : Option Kind) → is_some (merged_of m r p) ≡ true → (is_some r ≡ true → p ≡ Some Directory) → p ≡ Some Directory
-in_directory m (Some r) p h real = real refl
-in_directory (Some m) None (Some Directory) h real = refl
-in_directory (Some m) None p h real = let no : false ≡ true = h in cc
-in_directory None None p h real = let no : false ≡ true = h in cc
-
-module _ (manifest real : Files) (m : IsTree manifest) (r : IsTree real) where
-  shown : (q : Path) → is_some (places (merged manifest real) q) ≡ true → is_some (merged_at manifest real q) ≡ true
-  shown q h = sym (ap is_some (places-merged manifest real q)) ∙ h
-
-  kept : (q : Path) (k : Kind) → IsKind k real q → IsKind k (merged manifest real) q
-  kept q k h = ap kind_of (places-merged manifest real q) ∙ kind_of-merged (places manifest q) (places real q) (kind_of (places real (parent_of q))) k h
-
-  pub merged_is_tree : IsTree (merged manifest real)
-  merged_is_tree = record {
-    root = kept [] Directory r.root;
-    parents = λ q there other. kept (parent_of q) Directory
-        (in_directory (places manifest q) (places real q) (kind_of (places real (parent_of q))) (shown q there) (λ h. r.parents q h other));
-    names = λ q there. named q (present_of (places manifest q) (places real q) (kind_of (places real (parent_of q))) (shown q there));
-    objects = λ q o is. object_of-merged (places manifest q) (places real q) (kind_of (places real (parent_of q))) o
-        (m.objects q) (r.objects q) (sym (places-merged manifest real q) ∙ is);
-  }
-    where
-      named : (q : Path) → (is_some (places real q) ≡ true) ⊎ (is_some (places manifest q) ≡ true) → has_names q ≡ true
-      named q (inl h) = r.names q h
-      named q (inr h) = m.names q h

@@ -6,7 +6,7 @@ use Rattle.std.specs.FinMap as fin
 use Rattle.std.specs.FinMap.Entries.{below_all, find, is_sorted}
 use Rattle.std.specs.Ordering.{eq_by_cmp, is_eq, is_lt}
 use Rattle.pv_path.specs.Paths.{Path, parent_of, path_cmp, path_total, same_path, same_path-decides}
-use Rattle.pv_path.proofs.PathLaws.{same_path-refl, tied-equal, tied-same}
+use Rattle.pv_path.proofs.PathLaws.{same_path-refl, tied-same}
 use Rattle.pv_path.proofs.Tests.{each_T, less_of-T}
 use Rattle.pv_steps.specs.declared.node.Kind.{Kind}
 use Rattle.pv_steps.specs.declared.node.Kind.TheVariants.{Directory}

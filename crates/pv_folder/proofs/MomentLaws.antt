@@ -1,13 +1,12 @@
 -- Between any two changes that a run on a folder asks of its host, the folder holds an intermediate tree of the run.
-use Rattle.std.specs.Prelude.{◌≡◌, ◌≢◌, ℕ, zero, suc, ◌<◌, ◌^◌, false, List, [], ◌∷◌, ◌++◌, codes, take, Option, Some, None, option_map}
+use Rattle.std.specs.Prelude.{◌≡◌, ℕ, zero, suc, ◌<◌, ◌^◌, List, [], ◌∷◌, ◌++◌, take, Option, Some, None, option_map}
 use Rattle.std.proofs.Common.{refl, sym, ap, subst, ◌∙◌, append-nil}
 use Rattle.std.specs.Option.{option_to_list}
-use Rattle.pv_path.specs.Paths.{Path, is_prefix, same_path}
+use Rattle.pv_path.specs.Paths.{Path}
 use Rattle.pv_path.proofs.PathLaws.{same_path-no}
 use Rattle.pv_steps.specs.declared.step.Step.{Step}
 use Rattle.pv_steps.specs.Trees.{Files, IsTree, Places, places}
 use Rattle.pv_steps.specs.Steps.{Can, StepFits, after}
-use Rattle.pv_steps.specs.Runs.{after_all}
 use Rattle.pv_steps.proofs.StepLaws.{at_after}
 use Rattle.pv_steps.proofs.TreeLaws.{tree_after}
 use Rattle.pv_folder.specs.Content.{Change, Held, IsDirectory, changed, put_at}

@@ -21,7 +21,7 @@ use Rattle.pv_tree.proofs.GrowLaws.{IsGrowing, grown}
 use Rattle.pv_folder.specs.declared.item.HostItem.{HostItem}
 use Rattle.pv_folder.specs.declared.item.HostKind.{HostKind}
 use Rattle.pv_folder.specs.declared.item.HostKind.TheVariants as kind
-use Rattle.pv_folder.specs.Content.{Content, Held, HostObject, IsContent, IsDirectory, IsPresent, held, items_in, kind_at, listing, listing_of}
+use Rattle.pv_folder.specs.Content.{Content, HostObject, IsContent, IsPresent, held, items_in, kind_at, listing, listing_of}
 use Rattle.pv_folder.specs.Content as host
 use Rattle.pv_folder.specs.Lists.{comes_before, is_ordered}
 use Rattle.pv_folder.specs.declared.found.Found.{Found}
@@ -126,9 +126,6 @@ all_both P (x ∷ xs) ys g h = (g.0, all_both P xs ys g.1 h)
 -- ---- one object
 
 module _ (folder : Path) (c : Content) (content : IsContent (held c)) (p : Path) where
-  tree : Path
-  tree = tree_path folder
-
   below : (r : Path) → (tree_path folder ++ p) ++ r ≡ tree_path folder ++ (p ++ r)
   below r = append_assoc (tree_path folder) p r
 

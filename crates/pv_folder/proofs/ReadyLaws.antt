@@ -15,12 +15,11 @@ use Rattle.pv_steps.proofs.StepLaws.{at_after}
 use Rattle.pv_steps.proofs.TreeLaws.{tree_after}
 use Rattle.pv_folder.specs.declared.item.HostKind.TheVariants as named
 use Rattle.pv_folder.specs.Content as host
-use Rattle.pv_folder.specs.Content.{Change, Content, Held, HostObject, IsAbsent, IsContent, IsDirectory, IsFile, IsPresent, changed, held}
+use Rattle.pv_folder.specs.Content.{Change, Content, Held, HostObject, IsAbsent, IsContent, IsDirectory, IsPresent, changed, held}
 use Rattle.pv_folder.specs.Folders.{Agrees, IsFree, IsPrepared, IsSameElse, manifest_path, new_manifest_path, real_as, real_of, tree_path}
-use Rattle.pv_folder.specs.Keeping.{HasAsked, IsAtMostAhead, IsChangedBy, IsReady, IsSameOutside, Keeps, MayAskFor, Moves, ahead, all_made, change_for, level, one_more}
+use Rattle.pv_folder.specs.Keeping.{IsAtMostAhead, IsChangedBy, IsReady, IsSameOutside, Keeps, MayAskFor, Moves, ahead, all_made, change_for, one_more}
 use Rattle.pv_folder.specs.Made.{AreRecorded, HasMade}
-use Rattle.pv_folder.specs.Moving.{same_outside}
-use Rattle.pv_folder.proofs.MadeLaws.{made_asked, made_same}
+use Rattle.pv_folder.proofs.MadeLaws.{made_asked}
 use Rattle.pv_folder.proofs.AgreeLaws.{MayDo, agrees_after, done, may_ask, same_elsewhere}
 use Rattle.pv_folder.proofs.BelowLaws.{below_some, beside, longer}
 
@@ -188,11 +187,6 @@ module _ (folder : Path) (files : Files) (s : Step) (now : ℕ) (tree : IsTree f
 
 -- ---- how a step moves a folder
 
--- a host that has a tree is not ahead of it
-pub is_level : (folder : Path) (files : Files) (content : Option Content) → IfSome content (λ c. Agrees folder files (held c)) → IfSome content (λ c. IsAtMostAhead folder files (held c))
-is_level folder files None agrees = tt
-is_level folder files (Some c) agrees = level agrees
-
 -- and one that has it after a step is one step ahead
 pub is_ahead : (folder : Path) (files : Files) (step : Step) (now : ℕ) (content : Option Content) → Can (places files) step
     → IfSome content (λ c. Agrees folder (after files step now) (held c)) → IfSome content (λ c. IsAtMostAhead folder files (held c))
@@ -208,20 +202,6 @@ module _ (folder : Path) (t u : Files) (h k : List Step) (old new : Option Conte
 
   lasting : was ≡ true → will ≡ true
   lasting is = absurd (let no : false ≡ true = sym began ∙ is in cc)
-
-  -- a step that changed nothing, neither in memory nor on the host
-  pub moves_nothing : u ≡ t → k ≡ h → new ≡ old → m ≡ l → (will ≡ true → IfSome new (λ c. Agrees folder u (held c))) → Moved
-  moves_nothing files steps content changes agrees = record {
-    same = refl;
-    outside = subst (λ (o : Option Content). IsSameOutside folder old o) (sym content) (same_outside folder old);
-    count = up;
-    lasts = lasting;
-    near = λ is. inr (is_level folder u new (agrees is));
-    steps = [];
-    recorded = steps ∙ sym (append-nil h);
-    reached = files;
-    asked = all_made began (made_same old new l m content changes);
-  }
 
   module _ (s : Step) (now : ℕ) (outside : IsSameOutside folder old new) (asked : IsChangedBy (change_for (tree_path folder) (places t) s) old new)
       (recorded : AreRecorded (option_to_list (change_for (tree_path folder) (places t) s)) l m) where

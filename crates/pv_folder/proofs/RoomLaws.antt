@@ -1,6 +1,6 @@
 -- Files that are read with a limit, and a manifest that was listed and then read.
-use Rattle.std.proofs.Common.{◌≡◌, ◌≢◌, ◌∙◌, ◌⊎◌, inl, inr, ◌≤◌, ◌+◌, ◌-◌, suc, true, false, ◌||◌, List, [], ◌∷◌, ◌++◌, length, Option, Some, None, IfSome, is_some, option_map, Result, Ok, Err, IfOk, IfErr, refl, sym, ap, subst, ℕ, arith, Bool, if◌then◌else◌}
-use Rattle.std.specs.Prelude.{IsErrAnd, nat_lt}
+use Rattle.std.proofs.Common.{◌≡◌, ◌≢◌, ◌∙◌, ◌⊎◌, inl, inr, ◌≤◌, ◌+◌, ◌-◌, suc, true, false, List, [], ◌∷◌, ◌++◌, length, Option, Some, None, IfSome, is_some, option_map, Result, Ok, Err, IfOk, IfErr, refl, sym, ap, subst, ℕ, arith}
+use Rattle.std.specs.Prelude.{nat_lt}
 use Rattle.std.proofs.lemmas.Bool.Decides.{nat_tests}
 use Rattle.std.proofs.Math.Bool.{or-true}
 use Rattle.pv_path.specs.Paths.{Path}
@@ -9,44 +9,18 @@ use Rattle.pv_folder.specs.declared.item.HostKind.TheVariants as kind
 use Rattle.pv_folder.specs.Content.{Content, HostObject, bytes_of, held, kind_at, kind_of, within}
 use Rattle.pv_folder.specs.Content as host
 use Rattle.pv_image.specs.declared.Image.{Image}
-use Rattle.pv_image.specs.declared.image_fault.ImageFault.{ImageFault}
-use Rattle.pv_image.specs.declared.image_fault.ImageFault.TheVariants as image_fault
-use Rattle.pv_image.specs.Images.{HasImageFault, IsImage}
 use Rattle.pv_folder.specs.declared.found.Found.{Found}
 use Rattle.pv_folder.specs.declared.found.Seen.{Seen}
 use Rattle.pv_folder.specs.declared.found.Seen.TheVariants as seen
 use Rattle.pv_folder.specs.declared.open_fault.OpenFault.{OpenFault}
-use Rattle.pv_folder.specs.declared.open_fault.OpenFault.TheVariants.{Memory, OddObject, TooLarge}
+use Rattle.pv_folder.specs.declared.open_fault.OpenFault.TheVariants.{TooLarge}
 use Rattle.pv_folder.specs.Folders.{IsPrepared, manifest_path, tree_path}
-use Rattle.pv_folder.specs.Opening.{IsLonger, IsRefused, IsUnsaid, Says, SaysRead, is_outer, is_over, most_bytes, most_objects, of_image}
+use Rattle.pv_folder.specs.Opening.{IsLonger, IsRefused, IsUnsaid, Says, SaysRead, is_outer, is_over, most_bytes, most_objects}
 use Rattle.pv_folder.specs.Reading.{path_of}
 use Rattle.pv_folder.proofs.GoingLaws.{Faulty, IsGoing, going_over, going_same}
 use Rattle.pv_folder.proofs.OpeningLaws.{manifest_bad, manifest_says}
 
 -- ---- a limit
-
--- what was read whole within a limit is all of the file
-pub read_whole : (room : ℕ) (o : Option (List ℕ)) (b : List ℕ) → Some (Some b) ≡ option_map (within room) o → Some b ≡ o
-read_whole room None b e = cc
-read_whole room (Some d) b e = by (nat_lt room (length d)) e
-  where
-    by : (t : Bool) → ◌≡◌ {A = Option (Option (List ℕ))} (Some (Some b)) (Some (if t then None else Some d)) → Some b ≡ Some d
-    by true e = cc
-    by false e = let same : ◌≡◌ {A = Option (Option (List ℕ))} (Some (Some b)) (Some (Some d)) = e in cc
-
--- what was not is longer
-pub read_longer : (room : ℕ) (o : Option (List ℕ)) → ◌≡◌ {A = Option (Option (List ℕ))} (Some None) (option_map (within room) o) → IsLonger room o
-read_longer room None e = cc
-read_longer room (Some d) e = by (nat_lt room (length d)) e
-  where
-    by : (t : Bool) → ◌≡◌ {A = Option (Option (List ℕ))} (Some None) (Some (if t then None else Some d)) → t ≡ true
-    by true e = refl
-    by false e = cc
-
--- where nothing was read, nothing is there
-pub read_none : (room : ℕ) (o : Option (List ℕ)) → ◌≡◌ {A = Option (Option (List ℕ))} None (option_map (within room) o) → None ≡ o
-read_none room None e = refl
-read_none room (Some d) e = cc
 
 -- with a file that is longer than the room that is left there are too many bytes
 too_many : (objects bytes size room : ℕ) → room ≡ most_bytes - bytes → bytes ≤ most_bytes → nat_lt room size ≡ true → is_over objects (bytes + size) ≡ true

@@ -2,12 +2,12 @@
 -- lies in a directory that was seen.
 use Rattle.std.proofs.Common.{◌≡◌, ◌∙◌, Bool, true, false, cond, List, [], ◌∷◌, ◌++◌, map, Some, None, refl, sym, ap, subst, ℕ, append-nil}
 use Rattle.std.specs.List.{AllByRecursion}
-use Rattle.std.specs.Ordering.{eq_by_cmp, is_eq, is_lt, ordering_reverse}
+use Rattle.std.specs.Ordering.{eq_by_cmp, is_eq, ordering_reverse}
 use Rattle.std.specs.declared.cmp.Ordering.TheVariants.{Less}
 use Rattle.std.specs.FinMap as fin
 use Rattle.pv_path.specs.Names.{name_cmp}
-use Rattle.pv_path.specs.Paths.{Path, is_prefix, parent_of, path_cmp, path_total}
-use Rattle.pv_path.proofs.PathLaws.{is_prefix-append, is_prefix-refl, is_prefix-trans, parent_of-push, path_cmp-refl, tied-equal}
+use Rattle.pv_path.specs.Paths.{Path, is_prefix, path_cmp, path_total}
+use Rattle.pv_path.proofs.PathLaws.{is_prefix-append, is_prefix-refl, is_prefix-trans, path_cmp-refl, tied-equal}
 use Rattle.pv_steps.specs.declared.node.Kind.TheVariants.{Directory, File}
 use Rattle.pv_steps.specs.declared.object.Object.{Object}
 use Rattle.pv_steps.specs.Objects.{fresh}
@@ -73,12 +73,6 @@ later p (y ∷ next) h = (h.0 p (is_prefix-refl p), later p next h.1)
 -- ---- the next object
 
 module _ (files : Files) (last : Path) (x : Found) (next : List Found) (s : IsStacked files last (x ∷ next)) where
-  pub next_after : is_lt (path_cmp last (path_of x)) ≡ true
-  next_after = ap is_lt s.after.0
-
-  pub next_parent : IsKind Directory files (parent_of (path_of x))
-  next_parent = subst (IsKind Directory files) (sym (parent_of-push x.directory x.name)) s.inside.0
-
   none_yet : places files (path_of x) ≡ None
   none_yet = s.past (path_of x) s.after.0
 

@@ -4,7 +4,7 @@ use Rattle.pv_io.specs.Faults.{fault_after}
 use Rattle.pv_folder.specs.declared.host.HostFault.{HostFault}
 use Rattle.pv_folder.specs.declared.host.HostFault.TheVariants.{Failed}
 
--- the count of faults after a call: one more where it answered Failed, otherwise as before
+-- The count of faults after a call: one more if it answered `Failed`, otherwise as before.
 abbrev pub count_after : {A : Type 0} → Result A HostFault → ℕ → ℕ
 count_after (Err Failed) n = fault_after n
 count_after r n = n

@@ -5,14 +5,14 @@ use Rattle.pv_path.specs.Names.{name_cmp}
 use Rattle.pv_acl.specs.Ordered.{all_before_by, is_ordered_by}
 use Rattle.pv_folder.specs.declared.item.HostItem.{HostItem}
 
--- whether the name of an item comes before that of another, byte by byte
+-- Whether the name of an item comes before that of another, by bytes.
 abbrev pub comes_before : HostItem → HostItem → Bool
 comes_before x y = is_lt (name_cmp x.name y.name)
 
--- whether each of some items comes before this one
+-- Whether each of some items comes before this one.
 abbrev pub all_before : List HostItem → HostItem → Bool
 all_before = all_before_by comes_before
 
--- whether items are in order, each name at most once
+-- Whether items are in order, with each name at most once.
 abbrev pub is_ordered : List HostItem → Bool
 is_ordered = is_ordered_by comes_before

@@ -1,4 +1,4 @@
--- Steps on a tree in a folder of a host, one run of them after another: they move it as one run does.
+-- Steps on a tree in a folder of a host. Several runs of steps, one after the other, move it as one run does.
 use Rattle.std.specs.Prelude.{◌≡◌, ◌⊎◌, Bool, true, false, ℕ, List, [], ◌∷◌, ◌++◌, map, Option, Some, None, IfSome}
 use Rattle.std.specs.Option.{option_to_list}
 use Rattle.std.proofs.Common.{refl, subst, sym, ap, ◌∙◌, append-nil, append_assoc, arith, inl, inr}
@@ -29,6 +29,7 @@ asked_none a = by a.pending refl
     by true is = at_rest is refl refl refl
     by false is = all_made is (made_none a.content a.changes)
 
+-- Doing no steps is a move.
 pub moves_none : (a : FolderState) → Moves a a
 moves_none a = record {
   same = refl;
@@ -111,6 +112,7 @@ module _ (a b c : FolderState) (x y : List (Step × ℕ)) (same : b.folder ≡ a
   asked_on (at_rest pending none content changes) (all_made again more) = never (lasts pending) again
   asked_on (at_rest pending none content changes) (one_more step again later can fits more) = never (lasts pending) again
 
+-- Two moves, one after the other, are one move.
 pub moves_on : (a b c : FolderState) → Moves a b → Moves b c → Moves a c
 moves_on a b c first last = record {
   same = last.same ∙ first.same;
@@ -131,9 +133,10 @@ moves_on a b c first last = record {
     by (inl rest) = near_on a b c first rest (first.near rest.pending)
     by (inr near) = inr (subst (λ (f : Path). IfSome c.content (λ x. IsAtMostAhead f c.files (held x))) first.same near)
 
--- a reference that is still the same, and one that is the same as before
+-- A value is equal to itself.
 pub same : {X : Type 0} (a : X) → a ≡ a
 same a = refl
 
+-- If b is equal to a, and c to b, then c is equal to a.
 pub same_on : {X : Type 0} (a b c : X) → b ≡ a → c ≡ b → c ≡ a
 same_on a b c p q = q ∙ p

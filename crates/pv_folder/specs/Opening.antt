@@ -1,6 +1,6 @@
--- Opening a folder: what is read of it, and why it is not opened. A folder is listed first, then its manifest is read, then
--- `tree` is gone through, each object before those below it and each with all below it before the next; the first fault that
--- is met decides.
+-- Opening a folder: what is read of it, and why it is not opened. First the folder is listed, then its manifest is
+-- read, and then `tree` is read. There each object comes before those below it, and these before the next. The first
+-- fault decides.
 use Rattle.std.specs.Prelude.{◌≡◌, ◌≢◌, ◌⊎◌, ◌||◌, ℕ, suc, ◌+◌, nat_lt, Bool, true, false, List, [], ◌∷◌, codes, length, drop, Option, Some, None, if◌then◌else◌}
 use Rattle.std.specs.FinMap as fin
 use Rattle.pv_path.specs.Paths.{Path}
@@ -24,7 +24,8 @@ use Rattle.pv_folder.specs.Merge.{merged}
 
 -- ---- the manifest
 
--- the manifest of a folder says these facts and this tree; where none is there, it says no facts and a root alone
+-- What the manifest of a folder says: these facts and this tree. If there is no manifest, there are no facts, and
+-- the tree is a root alone.
 pub data Says (folder : Path) (content : Content) (facts : Values) (files : Files) : Type 0 where
   absent : held content (manifest_path folder) ≡ None → facts ≡ fin.empty
       → files ≡ root_alone (fresh Directory 0o755 [] 0 0 0).node → Says folder content facts files
@@ -33,32 +34,34 @@ pub data Says (folder : Path) (content : Content) (facts : Values) (files : File
 
 -- ---- what is real
 
--- the most objects below `tree`, and the most bytes of its files
+-- The most objects that may be below `tree`.
 abbrev pub most_objects : ℕ
 most_objects = 1000000
 
+-- The most bytes that its files may have together: 64 MiB.
 abbrev pub most_bytes : ℕ
 most_bytes = 67108864
 
--- the bytes of a file
+-- The number of bytes of a file. Another object has none.
 abbrev pub size : HostObject → ℕ
 size (host.File bytes) = length bytes
 size o = 0
 
--- whether there are more objects or bytes than a run takes
+-- Whether there are more objects or bytes than a run takes.
 abbrev pub is_over : ℕ → ℕ → Bool
 is_over objects bytes = nat_lt most_objects objects || nat_lt most_bytes bytes
 
--- a file has more bytes than there is room for
+-- A file has more bytes than there is room for.
 abbrev pub IsLonger : ℕ → Option (List ℕ) → Type 0
 IsLonger room (Some bytes) = nat_lt room (length bytes) ≡ true
 IsLonger room None = ⊥
 
--- an odd object is named by its path in the folder
+-- The fault of an odd object, which is named by its path in the folder.
 abbrev pub odd : Path → OpenFault
 odd path = OddObject (printed_path (codes "tree" ∷ path))
 
--- the first fault among objects, with so many objects and bytes before them
+-- The first fault among these objects, if there is one. Before them there were this many objects and bytes. An
+-- object that is neither a directory nor a file is odd.
 abbrev pub fault_among : ℕ → ℕ → List (Path × HostObject) → Option OpenFault
 fault_among objects bytes [] = None
 fault_among objects bytes ((path, host.Other) ∷ es) = Some (odd path)
@@ -66,13 +69,14 @@ fault_among objects bytes ((path, o) ∷ es) =
     if is_over (suc objects) (bytes + size o) then Some TooLarge
     else fault_among (suc objects) (bytes + size o) es
 
--- the objects below `tree`: all but the root, which comes first
+-- The objects below `tree`.
 abbrev pub objects_below : Path → Content → List (Path × HostObject)
 objects_below folder content = drop 1 (objects_in folder content)
 
 -- ---- the answer
 
--- a folder that is told is not opened for this reason
+-- A folder is not opened, for this reason: it is not prepared, its manifest is not an image, or there is a fault
+-- below `tree`. The first of these counts.
 pub data IsRefused (folder : Path) (content : Content) : OpenFault → Type 0 where
   not_prepared : (IsPrepared folder (held content) → ⊥) → IsRefused folder content NotPrepared
   bad_manifest : (bytes : List ℕ) (f : ImageFault) → IsPrepared folder (held content)
@@ -80,7 +84,8 @@ pub data IsRefused (folder : Path) (content : Content) : OpenFault → Type 0 wh
   real : (facts : Values) (files : Files) (fault : OpenFault) → IsPrepared folder (held content) → Says folder content facts files
       → fault_among 0 0 (objects_below folder content) ≡ Some fault → IsRefused folder content fault
 
--- a folder that is told is opened with these facts and this tree: the manifest's, merged with what is real
+-- A folder is opened with these facts and this tree: those of its manifest, merged with what is real. It has no
+-- fault.
 pub record IsOpened (folder : Path) (content : Content) (facts : Values) (tree : Files) : Type 0 where
   pub manifest : Files
   pub prepared : IsPrepared folder (held content)
@@ -90,16 +95,17 @@ pub record IsOpened (folder : Path) (content : Content) (facts : Values) (tree :
 
 -- ---- other faults
 
--- what a fault of the host, or of an image, is to opening
+-- The fault of opening for a fault of the host.
 abbrev pub of_host : HostFault → OpenFault
 of_host host_fault.Failed = HostFailed
 of_host host_fault.Memory = Memory
 
+-- The fault of opening for a fault of an image.
 abbrev pub of_image : ImageFault → OpenFault
 of_image image_fault.Memory = Memory
 of_image fault = BadManifest fault
 
--- whether a fault says nothing of what is in the folder: the host failed, or memory ran out
+-- Whether a fault is not one of the folder: the host failed, or memory ran out.
 abbrev pub is_outer : OpenFault → Bool
 is_outer HostFailed = true
 is_outer Memory = true
@@ -107,13 +113,13 @@ is_outer fault = false
 
 -- ---- a manifest that was listed
 
--- what a manifest that was listed says, of which this was read; where nothing was read, nothing
+-- What a manifest says that was listed and then read. If it could not be read, it says nothing.
 abbrev pub SaysRead : Option (List ℕ) → Values → Files → Type 0
 SaysRead (Some bytes) facts files = IsImage bytes facts files
 SaysRead None facts files = ⊥
 
--- why nothing is said by a manifest that was listed, of which this was read: it was gone, which makes it odd; or it is not an image;
--- or memory ran out
+-- Why a manifest that was listed says nothing. If it was read, it is not an image. If it was gone, it is an odd
+-- object. In both cases memory may have run out.
 abbrev pub IsUnsaid : Option (List ℕ) → OpenFault → Type 0
 IsUnsaid (Some bytes) fault = (f : ImageFault) × (fault ≡ of_image f) × (f ≢ image_fault.Memory → HasImageFault bytes f)
 IsUnsaid None fault = (fault ≡ OddObject (codes "/manifest")) ⊎ (fault ≡ Memory)

@@ -1,4 +1,5 @@
--- What a tree in a folder keeps to can hold in one way at most: so it can be a fact of a type's fields.
+-- What holds of a tree in a folder has at most one proof. So it can be kept in a field of a type without making
+-- equal values different.
 use Rattle.std.specs.Prelude.{◌≡◌, ℕ, Bool, true, false, List, ◌++◌, Option, Some, None, option_map, IfSome}
 use Rattle.std.proofs.Common.{refl, sym, ap, ◌∙◌, inl, inr}
 use Rattle.std.specs.Coded.{Coded, Coded-set, Unit-prop, code_by, coded_bool, coded_list, coded_option, coded_ℕ}
@@ -6,7 +7,7 @@ use Rattle.pv_path.specs.Paths.{Path}
 use Rattle.pv_steps.specs.Trees.{Files, places}
 use Rattle.pv_folder.specs.declared.item.HostKind.{HostKind}
 use Rattle.pv_folder.specs.declared.item.HostKind.TheVariants as kind
-use Rattle.pv_folder.specs.Content.{Content, Held, HostObject, IsAbsent, IsFile, held, kind_of}
+use Rattle.pv_folder.specs.Content.{Content, Held, HostObject, held, kind_of}
 use Rattle.pv_folder.specs.Content as host
 use Rattle.pv_folder.specs.Folders.{Agrees, IsFree, IsPrepared, real_of, tree_path}
 use Rattle.pv_folder.specs.Keeping.{IsReady}

@@ -1,4 +1,4 @@
-//! What a step on a tree asks of the host that has it in a folder.
+//! The one change that a step on a tree asks of the host that has the tree in a folder.
 ghost use Rattle.std.specs.Prelude.{◌≡◌, ◌↔◌, ◌≤◌, ◌++◌, is_some, IsTrue, OnOk, OnErr, IsErrOf};
 ghost use Rattle.std.specs.Option.{option_to_list};
 ghost use Rattle.pv_io.specs.Faults.{HasRisen};
@@ -18,7 +18,7 @@ use pv_steps::{Kind, Step};
 use pv_tree::MemTree;
 use std::alloc::Global;
 
-/// Whether a directory or a file stands at a path of a tree.
+/// Returns whether there is a directory or a file at a path of a tree.
 fn is_real(tree: &MemTree, path: &TreePath) -> bool
     ensures { result ≡ is_some (real_of (places tree.now.files path.now)) }
 {
@@ -28,7 +28,7 @@ fn is_real(tree: &MemTree, path: &TreePath) -> bool
     }
 }
 
-/// Whether a file stands at a path of a tree.
+/// Returns whether there is a file at a path of a tree.
 fn is_file(tree: &MemTree, path: &TreePath) -> bool
     ensures { IsTrue result ↔ IsKind File tree.now.files path.now }
 {
@@ -66,15 +66,15 @@ fn remove_file<H: Host>(
     host.remove_file(&host_path(alloc, folder, path)?)
 }
 
-/// The two paths of a move.
+/// The two paths of a rename.
 #[derive(Drop)]
 struct Move<'a> {
     from: &'a TreePath,
     to: &'a TreePath,
 }
 
-/// Renames the object at a path, if it is a directory or a file. Otherwise the rename may take the place of a file,
-/// which is removed.
+/// Renames the object at a path, if it is a directory or a file. Otherwise the host has only a file that the rename
+/// may replace, and this is removed.
 fn rename<H: Host>(
     alloc: Global,
     host: &mut H,
@@ -107,7 +107,7 @@ fn rename<H: Host>(
     host.rename(&from, &to)
 }
 
-/// Asks the host that has a tree in a folder for the one change that a step on the tree asks of it, if there is one.
+/// Asks the host that has a tree in a folder for the change that a step on the tree needs, if it needs one.
 pub(crate) fn ask_for<H: Host>(
     alloc: Global,
     host: &mut H,

@@ -9,9 +9,9 @@ use std::alloc::AllocError;
 pub(crate) enum HostChange {
     /// A directory was made.
     MakeDir { path: TreePath },
-    /// A file was written whole.
+    /// A file was written as a whole.
     WriteFile { path: TreePath, bytes: Bytes },
-    /// What stood at and below a path was moved to another.
+    /// The object at a path was moved to another path, with everything below it.
     Rename { from: TreePath, to: TreePath },
     /// A file was removed.
     RemoveFile { path: TreePath },
@@ -20,7 +20,7 @@ pub(crate) enum HostChange {
 }
 
 impl HostChange {
-    /// A copy of the change.
+    /// Copies the change.
     pub(crate) fn copy(&self) -> Result<HostChange, AllocError>
         ensures { IfOk result (λ change. change ≡ self.now) }
     {

@@ -1,4 +1,4 @@
-//! Closing a folder: its manifest is written anew.
+//! Closes a folder: writes its new manifest.
 ghost use Rattle.std.specs.Prelude.{◌≡◌, ◌≤◌, ℕ, take, OnOk, OnErr, IfSome};
 ghost use Rattle.pv_folder.specs.Content.{held, spelled};
 ghost use Rattle.pv_folder.specs.Counts.{count_after};
@@ -14,8 +14,9 @@ use pv_image::write_emptied;
 use pv_text::Facts;
 use std::alloc::Global;
 
-/// Writes a manifest as `manifest.new`, and then moves it to `manifest`, so that a loss of power leaves the old manifest or
-/// the new one, whole.
+/// Writes a manifest as `manifest.new`, and then moves it to `manifest`.
+///
+/// So a loss of power leaves the old manifest or the new one, complete.
 pub(crate) fn replace_manifest<H: Host>(
     alloc: Global,
     host: &mut H,
@@ -39,8 +40,15 @@ pub(crate) fn replace_manifest<H: Host>(
     host.replace_file(&new, &manifest)
 }
 
-/// Writes the manifest of facts and the tree in memory, which takes the place of the old one. It may be called at any time, also
-/// after a step that failed or ran out of memory. After a fault the old manifest is there.
+/// Writes the manifest of a folder: the image of these facts and the tree in memory, with every file empty.
+///
+/// It is written as `manifest.new`, which then replaces `manifest`. These two are the only changes that the host makes.
+/// The call may be made at any time, even after a step that failed or ran out of memory.
+///
+/// The errors are those of the host: `Failed` or `Memory`. If the content of the host is known, then after an error
+/// everything except `manifest.new` is as before, so the old manifest is there. On a machine the content is not known.
+/// There an error may come after the rename, and then the new manifest is there (see `Host::replace_file`). The tree in
+/// memory and the path of the folder do not change.
 pub fn close_folder<H: Host>(
     alloc: Global,
     tree: &mut FolderTree<'_, H>,
@@ -52,7 +60,8 @@ pub fn close_folder<H: Host>(
     ensures kept { OnErr result (IsSameButNew (spelled tree.old.folder.items)
         (H.content tree.old.host.now) (H.content tree.new.host.now)) }
 
-    // The host has made the two changes that close the folder and no others; after a fault none of them or the first.
+    // The host has made the two changes that close the folder and no others. After an error it has made none of them
+    // or the first.
     ensures asked { OnOk result (HasMade (closing (spelled tree.old.folder.items) (manifest_of facts.now tree.old.tree.files))
         (H.content tree.old.host.now) (H.content tree.new.host.now) (H.changes tree.old.host.now) (H.changes tree.new.host.now)) }
     ensures part { OnErr result ((k : ℕ) × ((k ≤ 1) × HasMade (take k (closing (spelled tree.old.folder.items) (manifest_of facts.now tree.old.tree.files)))

@@ -1,4 +1,4 @@
-//! Facts once more.
+//! Copies facts.
 ghost use Rattle.std.specs.Prelude.{◌≡◌, ◌==◌, ℕ, None, IfOk, OnOk, if◌then◌else◌};
 ghost use Rattle.std.specs.FinMap as fin;
 
@@ -17,7 +17,7 @@ fn copy_fact(copy: &mut Facts, facts: &Facts, letter: u8) -> Result<(), AllocErr
     }
 }
 
-/// A copy of the facts.
+/// Copies the facts.
 pub(crate) fn copy_of(alloc: Global, facts: &Facts) -> Result<Facts, AllocError>
     ensures { IfOk result (λ copy. copy ≡ facts.now) }
 {

@@ -1,4 +1,4 @@
-//! A tree in memory that a folder of a host has too.
+//! A tree in memory whose directories and files are in a folder of a host, too.
 ghost use Rattle.std.specs.Prelude.{◌≡◌, ◌++◌, ◌∷◌, [], ◌≤◌, ℕ, true, false, length, take, IfSome, OnOk, OnErr, IsErrOf, Err};
 ghost use Rattle.std.specs.Option.{option_to_list};
 ghost use Rattle.pv_steps.specs.declared.tree.TreeFault.TheVariants.{Failed, Memory};
@@ -22,27 +22,36 @@ use pv_steps::{Node, Step, Tree, TreeFault};
 use pv_tree::{MemTree, parts_fit};
 use std::alloc::{AllocError, Global};
 
-/// A tree in memory whose directories and files a folder of a host has too.
+/// A tree in memory whose directories and files are in a folder of a host, too.
 ///
-/// Each step asks for at most one change of the host, where it concerns a directory or a file, and is then done in memory. A
-/// step that runs out of memory may have been done on the host; from then on every step answers `Memory`. Until then a host
-/// that tells its content has in the folder exactly the directories and files of the tree in memory.
+/// A step that concerns a directory or a file asks the host for at most one change, below `tree`. After that the
+/// step is done in memory. Everything else, such as owners and links, is in memory alone, and `close_folder` writes
+/// it to the manifest.
+///
+/// A step that runs out of memory may have been done on the host alone. From then on every step answers `Memory`,
+/// and the host is not called. Until then, a host with a known content has exactly the directories and files of the
+/// tree in memory.
 #[derive(Drop)]
 pub struct FolderTree<'a, H: Host> {
     host: &'a mut H,
-    /// The folder's path on the host.
+    /// The path of the folder on the host.
     folder: Vec<u8>,
     tree: MemTree,
-    /// A step has begun that may be done on the host alone.
+    /// Whether a step has begun that may be done on the host alone.
     pending: bool,
-    /// How many steps were done when it last refused one.
+    /// The number of the steps that were recorded when the tree last refused one.
     refused_at: usize,
     ghost ready: { IfSome (H.content host.now) (λ c. IsReady (spelled folder.items) (held c)) } by { ready_prop (spelled folder.items) (H.content host.now) },
     ghost agrees: { pending ≡ false → IfSome (H.content host.now) (λ c. Agrees (spelled folder.items) tree.files (held c)) } by { agrees_prop pending (spelled folder.items) tree.files (H.content host.now) },
 }
 
 impl<'a, H: Host> FolderTree<'a, H> {
-    /// A tree that a host has in a folder. It takes no memory.
+    /// Returns the tree that a host has in a folder. The call does not allocate.
+    ///
+    /// `folder` is the path of the folder on the host, with slashes between the names. If the content of the host is
+    /// known, the folder must be prepared, and must have exactly the directories and files of `tree`. The answer of
+    /// `read_folder` has such a tree. A folder is prepared if it has the directory `tree`, and each of `manifest` and
+    /// `manifest.new` is a file or absent.
     pub fn of(host: &'a mut H, folder: Vec<u8>, tree: MemTree) -> FolderTree<'a, H>
         requires { IfSome (H.content host.old) (λ c. Keeps (spelled folder.items) tree.files c) }
         ensures host { result.host.ghost_name ≡ host.entry.ghost_name }
@@ -60,7 +69,7 @@ impl<'a, H: Host> FolderTree<'a, H> {
         }
     }
 
-    /// The host again, as the tree has left it. It takes no memory.
+    /// Returns the host, as the steps have left it. The call does not allocate.
     pub fn into_host(self) -> &'a mut H
         ensures host { result.ghost_name ≡ self.entry.host.ghost_name }
         ensures now { result.now ≡ self.entry.host.now }
@@ -75,14 +84,17 @@ impl<'a, H: Host> FolderTree<'a, H> {
         host
     }
 
-    /// The tree in memory. It takes no memory.
+    /// Returns the tree in memory. The call does not allocate.
     pub fn tree(&self) -> &MemTree
         ensures { result.now ≡ self.now.tree }
     {
         &self.tree
     }
 
-    /// Whether a step has run out of memory; until then the host has what the tree in memory has. It takes no memory.
+    /// Returns whether a step has run out of memory. The call does not allocate.
+    ///
+    /// If the answer is `false`, a host with a known content has exactly the directories and files of the tree in
+    /// memory. If it is `true`, the host may be one step ahead.
     pub fn is_pending(&self) -> bool
         ensures pending { result ≡ self.now.pending }
         ensures agrees { result ≡ false →
@@ -91,7 +103,7 @@ impl<'a, H: Host> FolderTree<'a, H> {
         self.pending
     }
 
-    /// Puts a manifest in the place of the old one. After a fault that one is there.
+    /// Replaces the manifest. If the content of the host is known, the old one is there after an error.
     pub(crate) fn replace_manifest(&mut self, alloc: Global, text: &[u8]) -> Result<(), HostFault>
         ensures done { OnOk result (HasManifest (spelled self.old.folder.items) text.now
             (H.content self.old.host.now) (H.content self.new.host.now)) }
@@ -154,7 +166,7 @@ impl<'a, H: Host> Tree for FolderTree<'a, H> {
         ensures counted { H.faults self.new.host.now ≡ faults_after (refused result) (H.faults self.old.host.now) }
         ensures last { IsErrOf result Failed → self.new.refused_at ≡ length self.new.tree.steps }
 
-        // A step that is done has asked the host for its change; one that failed has changed nothing there.
+        // A step that is done has changed the host as it asked. A step that failed has changed nothing there.
         ensures changed { OnOk result (IsChangedBy
             (change_for (tree_path (spelled self.old.folder.items)) (places self.old.tree.files) step.now)
             (H.content self.old.host.now) (H.content self.new.host.now)) }
@@ -166,7 +178,7 @@ impl<'a, H: Host> Tree for FolderTree<'a, H> {
             (H.changes self.old.host.now) (H.changes self.new.host.now)) }
         ensures unasked { IsErrOf result Failed → H.changes self.new.host.now ≡ H.changes self.old.host.now }
 
-        // Once a step has run out of memory, each further one does, and the host is not asked.
+        // Once a step has run out of memory, each further step answers `Memory`, and the host is not called.
         ensures pending { IsErrOf result Memory → self.new.pending ≡ true }
         ensures settled { (IsErrOf result Memory → ⊥) → self.new.pending ≡ false }
         ensures pending_fails { self.old.pending ≡ true → (result ≡ Err Memory) × (self.new.host.now ≡ self.old.host.now) }

@@ -1,4 +1,4 @@
-//! What a listing of a host names, and what is seen of it.
+//! Objects that a listing of a host names, and what is then read of them.
 ghost use Rattle.std.specs.Prelude.{◌≡◌, ◌∷◌, ◌++◌, [], true, reverse, map, IfOk, OnOk};
 ghost use Rattle.pv_folder.specs.Lists.{is_ordered};
 ghost use Rattle.pv_folder.specs.Opening.{odd};
@@ -9,7 +9,7 @@ use crate::open_fault::OpenFault;
 use pv_path::{Bytes, TreePath, add_printed, child, is_name, print_path};
 use std::alloc::{AllocError, Global};
 
-/// An object that a listing names, in its directory.
+/// An object that a listing names, with the directory that it is in.
 #[derive(Drop)]
 pub(crate) struct Found {
     pub(crate) directory: TreePath,
@@ -17,14 +17,14 @@ pub(crate) struct Found {
     pub(crate) kind: HostKind,
 }
 
-/// What is seen of an object: what stands in it, or its bytes.
+/// What was read of an object: the list of a directory, or the bytes of a file.
 #[derive(Drop)]
 pub(crate) enum Seen {
     Directory(HostList),
     File(Bytes),
 }
 
-/// What an item of a listing of a directory names.
+/// Returns the object that an item of a listing of a directory names.
 fn found_in(alloc: Global, directory: &TreePath, item: &HostItem) -> Result<Found, AllocError>
     ensures { IfOk result (λ found. found ≡ found_in directory.now item.now) }
 {
@@ -35,7 +35,7 @@ fn found_in(alloc: Global, directory: &TreePath, item: &HostItem) -> Result<Foun
     })
 }
 
-/// Puts what a listing of a directory names before what is still to be looked at, which is taken from the end.
+/// Adds what a listing of a directory names to what is still to be read. The next one to be read is the last.
 pub(crate) fn push_found(
     alloc: Global,
     pending: &mut Vec<Found>,
@@ -51,7 +51,7 @@ pub(crate) fn push_found(
     Ok(())
 }
 
-/// The fault of an odd object in a directory of a folder's tree.
+/// Returns the error for an odd object in a directory of the tree of a folder.
 pub(crate) fn odd(alloc: Global, directory: &TreePath, name: &[u8]) -> Result<OpenFault, AllocError>
     ensures { IfOk result (λ fault. fault ≡ odd (directory.now ++ name.now ∷ [])) }
 {

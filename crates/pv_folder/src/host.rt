@@ -14,7 +14,7 @@ use thiserror::Error;
 /// Why a host did not do what it was asked for.
 #[derive(Clone, Copy, Debug, PartialEq, Eq, Error)]
 pub enum HostFault {
-    /// It failed, and counted a fault.
+    /// The host failed, and counted a fault.
     #[error("Failed")]
     Failed,
     /// Memory ran out.
@@ -38,16 +38,16 @@ impl<T: Drop> From<AllocFailed<T>> for HostFault {
     }
 }
 
-/// What a file has, for a reader that takes at most so many bytes.
+/// What `read_within` found: the bytes of a file, or only that there are more of them than the caller takes.
 #[derive(Drop)]
 pub enum FileBytes {
-    /// All its bytes.
+    /// All bytes of the file.
     Whole(Vec<u8>),
-    /// It has more bytes than the reader takes.
+    /// The file has more bytes than the caller takes.
     Longer,
 }
 
-/// The bytes of a file, unless they are more than so many.
+/// Returns the bytes of a file, or `Longer` if there are more than `most`.
 pub(crate) fn limited(bytes: Vec<u8>, most: usize) -> FileBytes
     ensures { given result ≡ within most bytes.items }
 {
@@ -57,19 +57,28 @@ pub(crate) fn limited(bytes: Vec<u8>, most: usize) -> FileBytes
     FileBytes::Whole(bytes)
 }
 
-/// A host: the directories and files of a machine, or what stands for them.
+/// A host: the directories and files of a machine, or something that stands for them.
 ///
-/// It may tell what it holds, and it may tell the changes that it has made, in order. It has a count of faults that never
-/// falls: a call that answers `Failed` counts one, and no other does. A call that answers a fault leaves what is held as before, and
-/// records no change.
+/// A path is bytes with slashes between the names. Slashes at the beginning, at the end and in a row do not count.
+///
+/// In contracts, a host may have a known content: an object at each of some paths. It may also have a known list of
+/// the changes that it has made, in order. A clause about content or changes says nothing about a host for which
+/// they are not known.
+///
+/// Each host has a count of faults. A call that answers `Failed` adds one to it, and no other call does. The count
+/// stops at its largest value, 2^64 - 1. After an error, a known content is as before, and no change is recorded.
 pub trait Host {
+    /// The content, if it is known.
     ghost content: { Self → Option Content };
 
+    /// The changes that were made, in order, if they are known.
     ghost changes: { Self → Option (List Change) };
 
+    /// The count of faults.
     ghost faults: { Self → ℕ };
 
-    /// The objects in a directory, or nothing if the path is not a directory.
+    /// Lists the objects in a directory, in byte order of their names. The answer is `None` if the path is not a
+    /// directory.
     fn list(&mut self, alloc: Global, path: &[u8]) -> Result<Option<HostList>, HostFault>
         ensures from_content { IfOk result (λ items. IfSome (content self.old) (λ c. items ≡ listing c (spelled path.now))) }
         ensures content { IfSome (content self.old) (λ c. IsContent (held c)) }
@@ -79,7 +88,7 @@ pub trait Host {
         ensures never_falls { faults self.old ≤ faults self.new }
         ensures count { faults self.new ≡ count_after result (faults self.old) };
 
-    /// The bytes of a file, or nothing if the path is not a file.
+    /// Reads the bytes of a file. The answer is `None` if the path is not a file.
     fn read_file(&mut self, alloc: Global, path: &[u8]) -> Result<Option<Vec<u8>>, HostFault>
         ensures from_content { IfOk result (λ bytes. IfSome (content self.old) (λ c.
             option_map (λ b. b.items) bytes ≡ bytes_of (held c (spelled path.now)))) }
@@ -90,8 +99,10 @@ pub trait Host {
         ensures never_falls { faults self.old ≤ faults self.new }
         ensures count { faults self.new ≡ count_after result (faults self.old) };
 
-    /// The bytes of a file, unless there are more than `most`, or nothing if the path is not a file. A host that knows
-    /// the length of a file takes no memory for one that is longer.
+    /// Reads the bytes of a file, unless there are more than `most`. The answer is `None` if the path is not a
+    /// file.
+    ///
+    /// A host that knows the length of a file does not read a longer file.
     fn read_within(
         &mut self,
         alloc: Global,
@@ -114,7 +125,7 @@ pub trait Host {
         }
     }
 
-    /// Writes a file whole, where a file or nothing is.
+    /// Writes a file as a whole, at a path where there is a file or nothing. The path must be in a directory.
     fn write_file(&mut self, path: &[u8], bytes: &[u8]) -> Result<(), HostFault>
         requires { MayAsk (content self.old) (WriteFile (spelled path.now) bytes.now) }
         ensures done { OnOk result (IsChanged (WriteFile (spelled path.now) bytes.now) (content self.old) (content self.new)) }
@@ -125,7 +136,7 @@ pub trait Host {
         ensures never_falls { faults self.old ≤ faults self.new }
         ensures count { faults self.new ≡ count_after result (faults self.old) };
 
-    /// Makes a directory where nothing is.
+    /// Makes a directory at an absent path, which must be in a directory.
     fn make_dir(&mut self, path: &[u8]) -> Result<(), HostFault>
         requires { MayAsk (content self.old) (MakeDir (spelled path.now)) }
         ensures done { OnOk result (IsChanged (MakeDir (spelled path.now)) (content self.old) (content self.new)) }
@@ -136,7 +147,10 @@ pub trait Host {
         ensures never_falls { faults self.old ≤ faults self.new }
         ensures count { faults self.new ≡ count_after result (faults self.old) };
 
-    /// Renames the object at a path, with all below it, in place of an object that a rename may replace (rename(2)).
+    /// Renames the object at `from`, with everything below it, to `to` (rename(2)).
+    ///
+    /// At `to` there must be nothing, or an object that the rename can replace. A directory may replace an empty
+    /// directory, and another object may replace one that is not a directory.
     fn rename(&mut self, from: &[u8], to: &[u8]) -> Result<(), HostFault>
         requires { MayAsk (content self.old) (Rename (spelled from.now) (spelled to.now)) }
         ensures done { OnOk result (IsChanged (Rename (spelled from.now) (spelled to.now)) (content self.old) (content self.new)) }
@@ -147,9 +161,11 @@ pub trait Host {
         ensures never_falls { faults self.old ≤ faults self.new }
         ensures count { faults self.new ≡ count_after result (faults self.old) };
 
-    /// Moves a file to another path, where a file or nothing is, so that a loss of power leaves there what was or the new file,
-    /// each whole. A host with a disk brings the file to the disk, moves it, and then brings the directory to the disk. A fault
-    /// leaves what was. On a machine it may come after the move, and then the new file is there.
+    /// Renames a file so that a loss of power leaves the old file or the new one at `to`, complete.
+    ///
+    /// At `to` there must be a file or nothing. A host with a disk first syncs the file, then renames it, and then
+    /// syncs the directory (fsync(2)). On a machine, whose content is not known, an error may come after the rename,
+    /// and then the new file is there.
     fn replace_file(&mut self, from: &[u8], to: &[u8]) -> Result<(), HostFault>
         requires { MayAsk (content self.old) (Rename (spelled from.now) (spelled to.now)) }
         ensures done { OnOk result (IsChanged (Rename (spelled from.now) (spelled to.now)) (content self.old) (content self.new)) }
@@ -163,7 +179,7 @@ pub trait Host {
         self.rename(from, to)
     }
 
-    /// Removes a file.
+    /// Removes the file at a path (unlink(2)).
     fn remove_file(&mut self, path: &[u8]) -> Result<(), HostFault>
         requires { MayAsk (content self.old) (RemoveFile (spelled path.now)) }
         ensures done { OnOk result (IsChanged (RemoveFile (spelled path.now)) (content self.old) (content self.new)) }
@@ -174,7 +190,7 @@ pub trait Host {
         ensures never_falls { faults self.old ≤ faults self.new }
         ensures count { faults self.new ≡ count_after result (faults self.old) };
 
-    /// Removes an empty directory.
+    /// Removes the empty directory at a path, which must not be the root (rmdir(2)).
     fn remove_dir(&mut self, path: &[u8]) -> Result<(), HostFault>
         requires { MayAsk (content self.old) (RemoveDir (spelled path.now)) }
         ensures done { OnOk result (IsChanged (RemoveDir (spelled path.now)) (content self.old) (content self.new)) }

@@ -1,4 +1,4 @@
-//! Paths of a host, spelled in bytes.
+//! Paths of a host as bytes.
 ghost use Rattle.std.specs.Prelude.{◌≡◌, ◌∷◌, ◌++◌, [], true, IfOk, OnOk};
 ghost use Rattle.pv_path.specs.Names.{is_name};
 ghost use Rattle.pv_folder.specs.Content.{spelled};
@@ -7,7 +7,7 @@ ghost use Rattle.pv_folder.specs.Folders.{tree_path};
 use pv_path::TreePath;
 use std::alloc::{AllocError, Global};
 
-/// Adds a name to a path of a host.
+/// Appends a slash and a name to a path of a host.
 fn add_name(path: &mut Vec<u8>, name: &[u8]) -> Result<(), AllocError>
     requires { is_name name.now ≡ true }
     ensures { OnOk result (spelled path.new.items ≡ spelled path.old.items ++ name.now ∷ []) }
@@ -17,10 +17,10 @@ fn add_name(path: &mut Vec<u8>, name: &[u8]) -> Result<(), AllocError>
     Ok(())
 }
 
-/// The room that a path is given at first, in which most have their place.
+/// The capacity in bytes that a path has at first, which is enough for most paths.
 const USUAL_LENGTH: usize = 256;
 
-/// The path of what has a name in a folder of a host.
+/// Returns the path of a name in a folder of a host.
 pub(crate) fn below(alloc: Global, folder: &[u8], name: &[u8]) -> Result<Vec<u8>, AllocError>
     requires { is_name name.now ≡ true }
     ensures { IfOk result (λ bytes. spelled bytes.items ≡ spelled folder.now ++ name.now ∷ []) }
@@ -31,7 +31,7 @@ pub(crate) fn below(alloc: Global, folder: &[u8], name: &[u8]) -> Result<Vec<u8>
     Ok(path)
 }
 
-/// The path where an object of a tree stands in a folder of a host.
+/// Returns the path at which a folder of a host has the object at a path of a tree.
 pub(crate) fn host_path(
     alloc: Global,
     folder: &[u8],

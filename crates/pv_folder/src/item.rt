@@ -1,4 +1,4 @@
-//! What stands in a directory of a host.
+//! Objects in a directory of a host, and sorted lists of them.
 ghost use Rattle.std.specs.Prelude.{◌≡◌, ◌↔◌, true, [], ◌∷◌, ◌++◌, length, slice_get, IsTrue, OnOk, OnErr, IfOk, if◌then◌else◌};
 ghost use Rattle.std.specs.Option.{option_copied};
 ghost use Rattle.pv_folder.specs.Lists.{all_before, comes_before, is_ordered};
@@ -7,7 +7,7 @@ use pv_path::Bytes;
 use std::alloc::{AllocError, Global};
 use std::marker::Model;
 
-/// What an object of a host is.
+/// The kind of an object of a host.
 #[derive(Clone, Copy, PartialEq, Eq)]
 pub enum HostKind {
     /// A directory.
@@ -21,13 +21,15 @@ pub enum HostKind {
 /// An object in a directory of a host.
 #[derive(Drop)]
 pub struct HostItem {
-    /// Its name.
+    /// The name of the object in its directory.
     pub name: Bytes,
-    /// What it is.
+    /// The kind of the object.
     pub kind: HostKind,
 }
 
-/// The objects in a directory in byte order of their names, each name once (readdir(3)). Clauses see the list.
+/// The objects in a directory, sorted by the bytes of their names, each name once (readdir(3)).
+///
+/// In contracts, a value is the list of objects.
 #[derive(Drop)]
 pub struct HostList {
     items: Vec<HostItem>,
@@ -46,7 +48,7 @@ impl Model for HostList {
 }
 
 impl HostList {
-    /// No objects. It takes no memory.
+    /// Returns an empty list. The call does not allocate.
     pub fn new(alloc: Global) -> HostList
         ensures { result ≡ [] }
     {
@@ -55,7 +57,8 @@ impl HostList {
         }
     }
 
-    /// Adds an object whose name comes after all others. After running out of memory the list is as before.
+    /// Appends an object, whose name must come after all names in the list. If memory runs out, the list is as
+    /// before.
     pub fn push(&mut self, item: HostItem) -> Result<(), AllocError>
         requires { all_before self.old item ≡ true }
         ensures ok { OnOk result (self.new ≡ self.old ++ item ∷ []) }
@@ -65,8 +68,9 @@ impl HostList {
         Ok(())
     }
 
-    /// Adds an object whose name comes after all others, and answers whether it does. Where it does not, and after
-    /// running out of memory, the list is as before.
+    /// Appends an object if its name comes after all names in the list, and tells whether it did.
+    ///
+    /// If the answer is `Ok(false)`, or memory runs out, the list is as before.
     pub fn put_last(&mut self, item: HostItem) -> Result<bool, AllocError>
         ensures last { IfOk result (λ put. put ≡ all_before self.old item) }
         ensures ok { IfOk result (λ put. self.new ≡ (if put then self.old ++ item ∷ [] else self.old)) }
@@ -79,21 +83,22 @@ impl HostList {
         Ok(true)
     }
 
-    /// How many objects there are. It takes no memory.
+    /// Returns the number of objects. The call does not allocate.
     pub fn len(&self) -> usize
         ensures { result ≡ length self.now }
     {
         self.items.len()
     }
 
-    /// The object at an index counted from 0, or nothing past the end. It takes no memory.
+    /// Returns the object at an index counted from 0, or `None` if the index is not below the length. The call does not
+    /// allocate.
     pub fn get(&self, i: usize) -> Option<&HostItem>
         ensures { option_copied result ≡ slice_get self.now i }
     {
         self.items.get(i)
     }
 
-    /// The objects as a slice.
+    /// Returns the objects as a slice, in byte order of their names. The call does not allocate.
     pub fn as_slice(&self) -> &[HostItem]
         ensures value { result.now ≡ self.now }
         ensures ordered { is_ordered self.now ≡ true }
@@ -102,14 +107,14 @@ impl HostList {
     }
 }
 
-/// Whether the name of an item comes before that of another.
+/// Returns whether the name of an item comes before that of another.
 fn comes_before(x: &HostItem, y: &HostItem) -> bool
     ensures { result ≡ comes_before x.now y.now }
 {
     x.name.as_slice().cmp(y.name.as_slice()).is_lt()
 }
 
-/// Whether an item comes after all of a list in order, which is whether it comes after the last one.
+/// Returns whether an item comes after all items of a sorted list. Only the last item is compared.
 fn comes_last(items: &[HostItem], item: &HostItem) -> bool
     requires { is_ordered items.now ≡ true }
     ensures { result ≡ all_before items.now item.now }

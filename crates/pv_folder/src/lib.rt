@@ -1,8 +1,10 @@
-//! A file tree in a folder of a host: its directories and files are real, and a manifest has all else.
+//! A file tree in a folder of a host: its directories and files are real, and a manifest has everything else.
 //!
-//! [`Host`] is what a host can do: [`MemHost`] stands over a tree in memory and fails at planned calls, [`RealHost`] is the
-//! machine's own file system. [`read_folder`] opens a folder, and [`merge`] gives the tree of its manifest and of what is
-//! real; [`FolderTree`] is a tree in memory whose steps are done in the folder too, and [`close_folder`] writes its manifest.
+//! [`Host`] is the trait of what a file system can do. [`MemHost`] is a host over a tree in memory, which fails at
+//! planned calls. [`RealHost`] is the machine's own file system.
+//!
+//! [`read_folder`] opens a folder, and [`merge`] merges a manifest with the real objects. [`FolderTree`] is a tree
+//! in memory that does its steps in the folder too, and [`close_folder`] writes the manifest.
 #![tactic(auto)]
 
 mod asking;
@@ -11,6 +13,7 @@ mod closing;
 mod copied_facts;
 mod folder_tree;
 mod found;
+mod growing;
 mod host;
 mod host_path;
 mod item;

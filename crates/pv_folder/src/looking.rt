@@ -1,4 +1,4 @@
-//! Reads a folder of a host.
+//! Reads objects of a folder.
 ghost use Rattle.std.specs.Prelude.{◌≡◌, ◌≢◌, ◌≤◌, ◌∷◌, ◌++◌, [], true, false, option_map, IfOk, IfErr, IfSome, IsErrOf};
 ghost use Rattle.pv_io.specs.Faults.{HasRisen};
 ghost use Rattle.pv_path.specs.Names.{is_name};
@@ -17,7 +17,7 @@ use crate::open_fault::OpenFault;
 use pv_path::{Bytes, TreePath};
 use std::alloc::Global;
 
-/// The objects in a directory of a folder's tree, or nothing if the path is not a directory.
+/// Lists a directory of the tree of a folder. The answer is `None` if the path is not a directory.
 pub(crate) fn items_at<H: Host>(
     alloc: Global,
     host: &mut H,
@@ -37,7 +37,7 @@ pub(crate) fn items_at<H: Host>(
     Ok(host.list(alloc, place.as_slice())?)
 }
 
-/// The bytes of a file at a path of a host, or nothing if it is not a file.
+/// Reads the bytes of a file of a host. The answer is `None` if the path is not a file.
 pub(crate) fn bytes_at<H: Host>(
     alloc: Global,
     host: &mut H,
@@ -56,7 +56,7 @@ pub(crate) fn bytes_at<H: Host>(
     }
 }
 
-/// Bytes without the room that was left for more, which would be kept as long as they are.
+/// Returns bytes without unused capacity, which would be kept as long as they are.
 fn without_room(bytes: Vec<u8>) -> Bytes
     ensures { result ≡ bytes.items }
 {
@@ -65,8 +65,8 @@ fn without_room(bytes: Vec<u8>) -> Bytes
     Bytes::from_vec(bytes)
 }
 
-/// The bytes of a file at a path of a host, or nothing if it is not a file. The file is too large if it has more bytes
-/// than there is room for.
+/// Reads the bytes of a file of a host. The answer is `None` if the path is not a file, and an error if the file
+/// has more than `room` bytes.
 fn file_at<H: Host>(
     alloc: Global,
     host: &mut H,
@@ -88,8 +88,10 @@ fn file_at<H: Host>(
     }
 }
 
-/// What is seen of an object of a folder's tree, whose path is given too. It is odd if it is not what the listing says, and
-/// too large if it is a file with more bytes than there is room for.
+/// Reads an object of the tree of a folder, which was listed before, at its path.
+///
+/// It is an odd object if it is not what the listing says. The folder is too large if the object is a file with
+/// more than `room` bytes.
 pub(crate) fn look<H: Host>(
     alloc: Global,
     host: &mut H,

@@ -24,8 +24,8 @@ use std::alloc::{AllocError, Global};
 
 /// A host over a tree in memory, which fails exactly at planned calls.
 ///
-/// It holds the tree's directories, its files with their bytes, and each other object as one that it only names. It tells what it
-/// holds, and records the changes that it has made.
+/// It has the directories of the tree and the files with their bytes. Of each other object it has only the name. In
+/// contracts its content is known, and so are the changes that it has made.
 #[derive(Drop)]
 pub struct MemHost {
     tree: MemTree,
@@ -34,7 +34,10 @@ pub struct MemHost {
 }
 
 impl MemHost {
-    /// A host of this tree whose calls with the listed numbers fail, counted from 0.
+    /// Returns a host that has the content of this tree. The calls whose numbers are in `fails` will answer
+    /// `Failed`.
+    ///
+    /// Calls are counted from 0. For example, with `fails` of 0 and 2 the first and the third call fail.
     pub fn new(content: MemTree, fails: Vec<u64>) -> MemHost
         ensures tree { result.tree ≡ content }
         ensures plan { result.plan ≡ fresh fails.items }
@@ -48,7 +51,7 @@ impl MemHost {
         }
     }
 
-    /// What it holds.
+    /// Returns the tree that the host has now.
     pub fn content(&self) -> &MemTree
         ensures { result.now ≡ self.now.tree }
     {
@@ -56,7 +59,7 @@ impl MemHost {
     }
 }
 
-/// The path of bytes that spell names, as those of all that stands in a tree do.
+/// Returns the path that bytes spell. Its names are known to be allowed.
 fn named_path(alloc: Global, bytes: &[u8]) -> Result<TreePath, AllocError>
     requires { has_names (spelled bytes.now) ≡ true }
     ensures { IfOk result (λ path. path ≡ spelled bytes.now) }
@@ -67,8 +70,9 @@ fn named_path(alloc: Global, bytes: &[u8]) -> Result<TreePath, AllocError>
     }
 }
 
-/// Does a change of a tree, and records it at the end of the list of changes. The change is copied first. After running out of
-/// memory, which is the only fault, both are as before.
+/// Does a change of a tree, and appends it to the list of changes.
+///
+/// The only error is `Memory`. Tree and list are then as before.
 fn do_recorded(
     alloc: Global,
     tree: &mut MemTree,
@@ -92,7 +96,7 @@ fn do_recorded(
     }
 }
 
-/// Does a change of a tree. After running out of memory, which is the only fault, it is as before.
+/// Does a change of a tree. The only error is `Memory`. The tree is then as before.
 fn do_change(alloc: Global, tree: &mut MemTree, change: HostChange) -> Result<(), HostFault>
     requires { May (held (content_of tree.old.files)) (change_of change) }
     ensures done { OnOk result (Becomes (change_of change) tree.old.files tree.new.files) }

@@ -1,4 +1,4 @@
-//! One object of a manifest, merged into the tree of what is real.
+//! Merges one object of a manifest into the tree of real objects.
 ghost use Rattle.std.specs.Prelude.{◌≡◌, ◌↔◌, IsTrue, Some, None, IfSome, OnOk, true};
 ghost use Rattle.pv_path.specs.Paths.{has_names, parent_of};
 ghost use Rattle.pv_steps.specs.declared.node.Kind.TheVariants.{Directory};
@@ -14,7 +14,7 @@ use pv_steps::{Kind, Node};
 use pv_tree::MemTree;
 use std::alloc::{AllocError, Global};
 
-/// Whether a host has objects of this kind.
+/// Returns whether a host has objects of this kind.
 fn is_real_kind(kind: Kind) -> bool
     ensures { result ≡ is_real_kind kind }
 {
@@ -27,7 +27,7 @@ fn same_kind(a: Kind, b: Kind) -> bool
     a == b
 }
 
-/// Gives a real object of a kind all that the manifest's node at its path says of one of its kind.
+/// Gives a real object everything that the manifest says of an object of its kind at its path.
 fn set_metadata(
     tree: &mut MemTree,
     names: &[Name],
@@ -47,7 +47,7 @@ fn set_metadata(
     Ok(())
 }
 
-/// The names of the directory in which a path lies.
+/// Returns the names of the parent of a path.
 fn parent_names(names: &[Name]) -> &[Name]
     ensures { result.now ≡ parent_of names.now }
 {
@@ -57,7 +57,7 @@ fn parent_names(names: &[Name]) -> &[Name]
     }
 }
 
-/// Whether a path lies in a directory of a tree.
+/// Returns whether the parent of a path is a directory of a tree.
 fn lies_in_directory(tree: &MemTree, names: &[Name]) -> bool
     ensures { IsTrue result ↔ IsKind Directory tree.now.files (parent_of names.now) }
 {
@@ -67,7 +67,7 @@ fn lies_in_directory(tree: &MemTree, names: &[Name]) -> bool
     }
 }
 
-/// Puts the manifest's object at a path where nothing is real, if it is not dropped.
+/// Adds the manifest's object at a path where nothing is real, if it is not left out.
 fn add_unreal(
     alloc: Global,
     tree: &mut MemTree,
@@ -90,7 +90,7 @@ fn add_unreal(
     tree.add(&path, node.copy()?, payload)
 }
 
-/// Merges what the manifest says at a path into a tree of what is real.
+/// Merges what the manifest says at a path into a tree of real objects.
 pub(crate) fn merge_at(
     alloc: Global,
     tree: &mut MemTree,

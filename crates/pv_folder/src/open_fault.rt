@@ -10,23 +10,26 @@ use std::alloc::{AllocError, AllocFailed};
 use std::fmt;
 use thiserror::Error;
 
-/// Why a folder is not opened.
+/// Why a folder is not opened. All except `HostFailed` and `Memory` are defects of the folder.
 #[derive(Drop, Error)]
 pub enum OpenFault {
-    /// The host failed; its count of faults has risen.
+    /// The host failed, and its count of faults rose.
     #[error("HostFailed")]
     HostFailed,
-    /// The folder has no directory `tree`, or has `manifest` or `manifest.new` as anything but a file.
+    /// The folder has no directory `tree`, or `manifest` or `manifest.new` is present and not a file.
     #[error("NotPrepared")]
     NotPrepared,
-    /// The manifest is not an image.
+    /// The manifest is not an image, for this reason.
     #[error("BadManifest")]
     BadManifest(ImageFault),
-    /// The object at this path of the folder, which is printed, is neither a directory nor a file, or its name is not
-    /// allowed in a tree. Or it was gone when it was listed or read.
+    /// An object is neither a directory nor a file, or its name is not allowed in a tree. Or it was gone when it
+    /// was to be listed or read.
+    ///
+    /// The bytes are its path in the folder as printed bytes, such as `/tree/run/socket`.
     #[error("OddObject")]
     OddObject(Bytes),
-    /// There are more objects or more bytes of files than a run takes.
+    /// Below `tree` there are more than 1,000,000 objects, or the files have more than 67,108,864 bytes (64 MiB)
+    /// together.
     #[error("TooLarge")]
     TooLarge,
     /// Memory ran out.

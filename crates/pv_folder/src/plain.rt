@@ -1,20 +1,15 @@
-//! Objects of which a manifest says nothing.
-ghost use Rattle.std.specs.Prelude.{◌≡◌, [], true, IfOk, OnOk};
-ghost use Rattle.std.specs.FinMap as fin;
-ghost use Rattle.std.specs.Ordering.{is_lt};
-ghost use Rattle.pv_path.specs.Paths.{has_names, parent_of, path_cmp};
+//! Real objects of which a manifest says nothing.
+ghost use Rattle.std.specs.Prelude.{◌≡◌, [], IfOk};
 ghost use Rattle.pv_steps.specs.declared.node.Kind.TheVariants.{Directory};
-ghost use Rattle.pv_steps.specs.Objects.{IsObject};
-ghost use Rattle.pv_steps.specs.Trees.{IsKind};
 ghost use Rattle.pv_folder.specs.Merge.{plain, plain_mode, plained};
 
-use crate::merging::add;
-use pv_path::{Bytes, Name, TreePath};
+use crate::growing::add_at;
+use pv_path::Bytes;
 use pv_steps::{Kind, Node, Object};
 use pv_tree::{MemTree, TreeBuilder};
 use std::alloc::{AllocError, Global};
 
-/// The mode of a real object of which the manifest says nothing.
+/// Returns the mode of a real object of which the manifest says nothing.
 fn plain_mode(kind: Kind) -> u16
     ensures { result ≡ plain_mode kind }
 {
@@ -25,7 +20,7 @@ fn plain_mode(kind: Kind) -> u16
     }
 }
 
-/// A real object of which the manifest says nothing, with a copy of its bytes.
+/// Returns a real object of which the manifest says nothing, with a copy of its bytes.
 fn plain(alloc: Global, node: &Node, payload: &[u8]) -> Result<Object, AllocError>
     ensures { IfOk result (λ object. object ≡ plain (record { node = node.now; payload = payload.now })) }
 {
@@ -34,23 +29,7 @@ fn plain(alloc: Global, node: &Node, payload: &[u8]) -> Result<Object, AllocErro
     Ok(Object::fresh(alloc, node.kind, mode, payload, node.major, node.minor, 0))
 }
 
-/// Adds the next object, whose path is in order and lies in a directory.
-fn add_at(
-    alloc: Global,
-    builder: &mut TreeBuilder,
-    names: &[Name],
-    object: Object,
-) -> Result<(), AllocError>
-    requires names { has_names names.now ≡ true }
-    requires object { IsObject object }
-    requires after { is_lt (path_cmp builder.old.last names.now) ≡ true }
-    requires parent { IsKind Directory builder.old.files (parent_of names.now) }
-    ensures { OnOk result (builder.new ≡ record { files = fin.insert builder.old.files names.now object; last = names.now }) }
-{
-    add(builder, TreePath::of(alloc, names)?, object)
-}
-
-/// A tree once more, as if the manifest said nothing of it.
+/// Copies a tree as if the manifest said nothing of it.
 pub(crate) fn plain_copy(alloc: Global, tree: &MemTree) -> Result<MemTree, AllocError>
     ensures files { IfOk result (λ copy. copy.files ≡ plained tree.now.files) }
     ensures steps { IfOk result (λ copy. copy.steps ≡ []) }

@@ -1,4 +1,4 @@
-//! A folder of a host, opened.
+//! Opens a folder of a host.
 ghost use Rattle.std.specs.Prelude.{◌≡◌, ◌≤◌, ◌⊎◌, [], true, false, is_some, IfOk, IfErr, IfSome, IsErrOf, Err};
 ghost use Rattle.pv_io.specs.Faults.{HasRisen};
 ghost use Rattle.std.specs.FinMap as fin;
@@ -26,7 +26,7 @@ use pv_text::Facts;
 use pv_tree::TreeBuilder;
 use std::alloc::{AllocError, Global};
 
-/// The kind that a listing gives for a name, if it has the name.
+/// Returns the kind that a listing has for a name, if it has the name.
 fn kind_named(items: &[HostItem], name: &[u8]) -> Option<HostKind>
     ensures { result ≡ kind_named name.now items.now }
 {
@@ -38,14 +38,15 @@ fn kind_named(items: &[HostItem], name: &[u8]) -> Option<HostKind>
     None
 }
 
-/// Whether a file may be written where something of a kind is, or nothing.
+/// Returns whether a file may be written where there is an object of this kind, or nothing.
 fn is_free(kind: Option<HostKind>) -> bool
     ensures { result ≡ is_free kind }
 {
     matches!(kind, None | Some(HostKind::File))
 }
 
-/// Whether a folder that lists this can be run on.
+/// Returns whether a folder with this listing is prepared: it has the directory `tree`, and each of `manifest` and
+/// `manifest.new` is a file or absent.
 fn is_prepared(items: &[HostItem]) -> bool
     ensures { result ≡ lists_prepared items.now }
 {
@@ -54,7 +55,7 @@ fn is_prepared(items: &[HostItem]) -> bool
         && is_free(kind_named(items, b"manifest.new"))
 }
 
-/// Whether a folder has a manifest, where it can be run on.
+/// Returns whether a folder has a manifest. If the folder is not prepared, this is an error.
 fn has_manifest<H: Host>(alloc: Global, host: &mut H, folder: &[u8]) -> Result<bool, OpenFault>
     ensures prepared { IfOk result (λ _. IfSome (H.content host.old) (λ c. IsPrepared (spelled folder.now) (held c))) }
     ensures there { IfOk result (λ there. IfSome (H.content host.old) (λ c.
@@ -76,8 +77,10 @@ fn has_manifest<H: Host>(alloc: Global, host: &mut H, folder: &[u8]) -> Result<b
     Ok(kind_named(items.as_slice(), b"manifest").is_some())
 }
 
-/// The facts and the tree that a listed manifest says, of which this was read. One that was gone by then is odd: it does not
-/// count as absent, so that no run writes over a manifest that it has not read.
+/// Returns the facts and the tree of a manifest that was listed and then read.
+///
+/// If it was gone by then, it is an odd object. It does not count as absent, so that no run writes over a manifest
+/// that it has not read.
 fn manifest_from(alloc: Global, read: Option<Bytes>) -> Result<Image, OpenFault>
     ensures says { IfOk result (λ image. SaysRead read image.facts image.tree.files) }
     ensures unsaid { IfErr result (λ fault. IsUnsaid read fault) }
@@ -89,7 +92,7 @@ fn manifest_from(alloc: Global, read: Option<Bytes>) -> Result<Image, OpenFault>
     }
 }
 
-/// The facts and the tree that the manifest of a folder says, where it is there.
+/// Reads the facts and the tree of the manifest of a folder, which is there.
 fn read_manifest<H: Host>(alloc: Global, host: &mut H, folder: &[u8]) -> Result<Image, OpenFault>
     requires prepared { IfSome (H.content host.old) (λ c. IsPrepared (spelled folder.now) (held c)) }
     requires there { IfSome (H.content host.old) (λ c. is_some (held c (manifest_path (spelled folder.now))) ≡ true) }
@@ -107,7 +110,7 @@ fn read_manifest<H: Host>(alloc: Global, host: &mut H, folder: &[u8]) -> Result<
     manifest_from(alloc, read)
 }
 
-/// What an absent manifest says: no facts and a root alone.
+/// Returns what an absent manifest says: no facts and only a root.
 fn no_manifest(alloc: Global) -> Result<Image, AllocError>
     ensures facts { IfOk result (λ image. image.facts ≡ fin.empty) }
     ensures tree { IfOk result (λ image. image.tree.files ≡ root_alone (fresh node.Directory 0o755 [] 0 0 0).node) }
@@ -119,7 +122,7 @@ fn no_manifest(alloc: Global) -> Result<Image, AllocError>
     })
 }
 
-/// The facts and the tree that the manifest of a folder says, where the folder can be run on.
+/// Reads the facts and the tree of the manifest of a folder, which must be prepared.
 fn manifest_in<H: Host>(alloc: Global, host: &mut H, folder: &[u8]) -> Result<Image, OpenFault>
     ensures prepared { IfOk result (λ _. IfSome (H.content host.old) (λ c. IsPrepared (spelled folder.now) (held c))) }
     ensures content { IfSome (H.content host.old) (λ c. IsContent (held c)) }
@@ -139,15 +142,23 @@ fn manifest_in<H: Host>(alloc: Global, host: &mut H, folder: &[u8]) -> Result<Im
     }
 }
 
-/// Opens a folder of a host: the facts of its manifest, and the manifest's tree merged with the real objects in `tree`.
-/// No step is recorded in the tree. The folder is listed first, then its manifest is read, then `tree` is read in the
-/// order of the paths. The first fault that is met is answered.
+/// Opens a folder of a host: returns the facts of its manifest, and the manifest's tree merged with the real
+/// objects in `tree`.
+///
+/// `folder` is the path of the folder on the host, with slashes between the names. No step is recorded in the tree, and
+/// nothing on the host is changed. An absent manifest counts as one with no facts and only a root. `merge` says how the
+/// two are merged.
+///
+/// The folder is listed first, then its manifest is read, then `tree` is read in the order of the paths. The first
+/// defect that is met is the error: see `OpenFault`. If the host fails or memory runs out before that, the error is
+/// `HostFailed` or `Memory`. One of the defects is `TooLarge`: the limits are 1,000,000 objects below `tree`, and 64
+/// MiB for the files together.
 pub fn read_folder<H: Host>(alloc: Global, host: &mut H, folder: &[u8]) -> Result<Image, OpenFault>
     ensures opened { IfOk result (λ image. IfSome (H.content host.old) (λ c.
         IsOpened (spelled folder.now) c image.facts image.tree.files)) }
     ensures steps { IfOk result (λ image. image.tree.steps ≡ []) }
 
-    // A fault of the host or of memory may take the place of the folder's own.
+    // The error of a defective folder is its defect, `HostFailed` or `Memory`.
     ensures refused { IfErr result (λ fault. is_outer fault ≡ false → IfSome (H.content host.old) (λ c.
         IsRefused (spelled folder.now) c fault)) }
     ensures refuses { (fault : Fault) → IfSome (H.content host.old) (λ c. IsRefused (spelled folder.now) c fault →

@@ -1,4 +1,4 @@
-//! The tree of a folder, gone through object by object in the order of the paths.
+//! Reads the tree of a folder object by object, in the order of the paths.
 ghost use Rattle.std.specs.Prelude.{◌≡◌, ◌≢◌, ◌≤◌, suc, ◌+◌, ◌⊎◌, ◌++◌, [], map, true, false, reverse, IfOk, IfErr, IfSome, IsErrOf, OnOk, None, Some};
 ghost use Rattle.std.specs.FinMap as fin;
 ghost use Rattle.std.specs.Ordering.{is_lt};
@@ -23,7 +23,6 @@ use crate::found::{Found, Seen, odd, push_found};
 use crate::host::Host;
 use crate::item::{HostKind, HostList};
 use crate::looking::{items_at, look};
-use crate::merging::add;
 use crate::open_fault::OpenFault;
 use pv_path::{Bytes, TreePath, child, is_name};
 use pv_steps::{Kind, Object};
@@ -33,22 +32,22 @@ use std::alloc::{AllocError, Global};
 /// The most objects below `tree`.
 const MOST_OBJECTS: u64 = 1_000_000;
 
-/// The most bytes of the files below `tree`.
+/// The most bytes that the files below `tree` may have together.
 const MOST_BYTES: usize = 67_108_864;
 
-/// How far a folder's tree was gone through.
+/// How far the tree of a folder was read.
 #[derive(Drop)]
 struct Reading {
-    /// What was seen, as a tree in the making.
+    /// What was read so far.
     builder: TreeBuilder,
-    /// What listings named and is still to be looked at, the next one last.
+    /// What listings have named and is still to be read. The next one is the last.
     pending: Vec<Found>,
-    /// How many objects were looked at, and how many bytes their files had.
+    /// How many objects were read, and how many bytes their files had.
     objects: u64,
     bytes: usize,
 }
 
-/// A directory of which no more is known.
+/// Returns a directory of which nothing else is known.
 fn directory_object(alloc: Global) -> Object
     ensures object { result ≡ fresh node.Directory 0o755 [] 0 0 0 }
     ensures whole { IsObject result }
@@ -56,14 +55,14 @@ fn directory_object(alloc: Global) -> Object
     Object::fresh(alloc, Kind::Directory, 0o755, Bytes::new(alloc), 0, 0, 0)
 }
 
-/// Tells that the items of a slice are bytes.
+/// Gives the proof of its caller the fact that the items of a slice are bytes. It does nothing when it runs.
 fn are_bytes(bytes: &[u8])
     ensures { are_bytes bytes.now ≡ true }
 {
     let _count = bytes.len();
 }
 
-/// A file of which no more is known than its bytes.
+/// Returns a file of which nothing but the bytes is known.
 fn file_object(alloc: Global, bytes: Bytes) -> Object
     ensures object { result ≡ fresh node.File 0o644 bytes 0 0 0 }
     ensures whole { IsObject result }
@@ -72,7 +71,7 @@ fn file_object(alloc: Global, bytes: Bytes) -> Object
     Object::fresh(alloc, Kind::File, 0o644, bytes, 0, 0, 0)
 }
 
-/// How many bytes what was seen has.
+/// Returns the number of bytes that were read of an object.
 fn size_of(seen: &Seen) -> usize
     ensures size { result ≡ seen_size seen.now }
     ensures ordered { is_ordered (items_of seen.now) ≡ true }
@@ -86,7 +85,7 @@ fn size_of(seen: &Seen) -> usize
     }
 }
 
-/// The objects in `tree`, if it is a directory.
+/// Lists the objects in `tree`.
 fn items_in_tree<H: Host>(alloc: Global, host: &mut H, folder: &[u8]) -> Result<HostList, OpenFault>
     requires { IfSome (H.content host.old) (λ c. IsDirectory (held c) (tree_path (spelled folder.now))) }
     ensures from_content { IfOk result (λ items. IfSome (H.content host.old) (λ c. listing c (tree_path (spelled folder.now)) ≡ Some items)) }
@@ -103,7 +102,7 @@ fn items_in_tree<H: Host>(alloc: Global, host: &mut H, folder: &[u8]) -> Result<
     }
 }
 
-/// The path of what is found, where it may stand in a tree.
+/// Returns the path of an object that was listed. It is an error if a tree cannot have the object.
 fn enter(alloc: Global, found: &Found) -> Result<TreePath, OpenFault>
     ensures path { IfOk result (λ path. path ≡ path_of found.now) }
     ensures name { OnOk result (is_name found.now.name ≡ true) }
@@ -119,7 +118,7 @@ fn enter(alloc: Global, found: &Found) -> Result<TreePath, OpenFault>
 }
 
 impl Reading {
-    /// Begins with a directory alone, in which these objects stand.
+    /// Begins with only a directory, which has these objects in it.
     fn of(alloc: Global, items: &HostList) -> Result<Reading, AllocError>
         ensures pending { IfOk result (λ reading. reading.pending.items ≡ reverse (map (found_in []) items.now)) }
         ensures ordered { is_ordered items.now ≡ true }
@@ -160,7 +159,7 @@ impl Reading {
         Ok(())
     }
 
-    /// Takes what was seen at a path, and goes on with what stands in it.
+    /// Adds the object that was read at a path, and goes on with what is in it.
     fn take(&mut self, alloc: Global, path: TreePath, seen: Seen) -> Result<(), AllocError>
         requires after { is_lt (path_cmp self.old.builder.last path) ≡ true }
         requires parent { IsKind node.Directory self.old.builder.files (parent_of path) }
@@ -173,14 +172,14 @@ impl Reading {
         match seen {
             Seen::Directory(items) => {
                 push_found(alloc, &mut self.pending, &path, &items)?;
-                add(&mut self.builder, path, directory_object(alloc))
+                self.builder.add_next(path, directory_object(alloc))
             }
-            Seen::File(bytes) => add(&mut self.builder, path, file_object(alloc, bytes)),
+            Seen::File(bytes) => self.builder.add_next(path, file_object(alloc, bytes)),
         }
     }
 }
 
-/// The tree of what is real in a folder.
+/// Reads the tree of the real objects in a folder.
 pub(crate) fn read_tree<H: Host>(
     alloc: Global,
     host: &mut H,

@@ -1,4 +1,4 @@
-//! The machine's own directories and files: the edge.
+//! The machine's own directories and files.
 ghost use Rattle.std.specs.Prelude.{◌≡◌, ◌≢◌, ◌≤◌, None, Ok, IfOk, IfErr, IsErrOf, IsErrAnd};
 ghost use Rattle.std.specs.IoError.{error_kind};
 ghost use Rattle.pv_io.specs.Faults.{HasRisen};
@@ -18,10 +18,10 @@ use std::str;
 /// How often a call is tried that a signal interrupts (signal(7)).
 const MOST_TRIES: u32 = 1000;
 
-/// The directories and files of the machine. It tells nothing of what it holds.
+/// The directories and files of the machine. In contracts, its content is not known.
 ///
-/// No call follows a link at the last place of a path. A path, or a name in a directory, that is not UTF-8 is a
-/// fault, which is counted. A call that a signal interrupts is tried again.
+/// No call follows a symbolic link at the last component of a path. A path, or a name in a directory, that is not
+/// UTF-8 is a fault, which is counted. A call that a signal interrupts is tried again: up to 1,000 tries for each call.
 #[derive(Drop)]
 pub struct RealHost<R: Files> {
     rt: R,
@@ -29,15 +29,18 @@ pub struct RealHost<R: Files> {
 }
 
 impl<R: Files> RealHost<R> {
-    /// The directories and files that a runtime reaches, with no fault counted.
+    /// Returns the host for the files that a runtime can reach, with no fault counted. A runtime is std's handle for
+    /// calls to the system, which `main` gets.
     pub fn new(rt: R) -> RealHost<R>
         ensures { result.faults ≡ 0 }
     {
         RealHost { rt, faults: 0 }
     }
 
-    /// What is answered to what the machine has done: the same where it has done it; `Memory` where it had none left; and
-    /// for any other error `Failed`, which is counted.
+    /// Turns the answer of the machine into that of a host.
+    ///
+    /// Success is the same. An error is `Memory` if the machine was out of memory. Any other error is `Failed`, and
+    /// is counted.
     fn judged<T>(&mut self, done: io::Result<T>) -> Result<T, HostFault>
         ensures done { IfOk done (λ answer. result ≡ Ok answer) }
         ensures memory { IfErr done (λ error. error_kind error ≡ ErrorKind.OutOfMemory → IsErrOf result Memory) }
@@ -57,7 +60,7 @@ impl<R: Files> RealHost<R> {
     }
 }
 
-/// What a call answers that is tried again as long as a signal interrupts it.
+/// Makes a call again as long as a signal interrupts it.
 fn tried<T, F: Fn() -> io::Result<T>>(call: F) -> io::Result<T>
     requires { F.IsAlwaysCallable call }
 {
@@ -70,7 +73,7 @@ fn tried<T, F: Fn() -> io::Result<T>>(call: F) -> io::Result<T>
     call()
 }
 
-/// What an object is.
+/// Returns the kind of an object.
 fn kind_of(file_type: FileType) -> HostKind {
     if file_type.is_dir() {
         HostKind::Directory
@@ -81,7 +84,7 @@ fn kind_of(file_type: FileType) -> HostKind {
     }
 }
 
-/// The text of a path.
+/// Returns the text of a path.
 fn text_of(path: &[u8]) -> io::Result<&str> {
     match str::from_utf8(path) {
         Ok(text) => Ok(text),
@@ -89,8 +92,8 @@ fn text_of(path: &[u8]) -> io::Result<&str> {
     }
 }
 
-/// The metadata of the object at a path of the machine, or nothing if it is absent. A symbolic link at the last
-/// component is not followed.
+/// Returns the metadata of the object at a path of the machine, or `None` if it is absent. A symbolic link at the
+/// last component is not followed.
 fn metadata_at<R: Files>(rt: &R, path: &str) -> io::Result<Option<Metadata>> {
     match fs::symlink_metadata(rt, path) {
         Ok(metadata) => Ok(Some(metadata)),
@@ -101,7 +104,7 @@ fn metadata_at<R: Files>(rt: &R, path: &str) -> io::Result<Option<Metadata>> {
     }
 }
 
-/// The kind of the object at a path, or nothing if it is absent.
+/// Returns the kind of the object at a path, or `None` if it is absent.
 fn kind_at<R: Files>(rt: &R, path: &str) -> io::Result<Option<HostKind>> {
     match metadata_at(rt, path)? {
         Some(metadata) => Ok(Some(kind_of(metadata.file_type()))),
@@ -109,7 +112,7 @@ fn kind_at<R: Files>(rt: &R, path: &str) -> io::Result<Option<HostKind>> {
     }
 }
 
-/// The objects in a directory, in the order of their names.
+/// Returns the objects of a directory in byte order of their names.
 fn sorted_items(alloc: Global, items: Vec<HostItem>) -> io::Result<HostList> {
     let mut items = items;
     items.sort_by(|x, y| x.name.as_slice().cmp(y.name.as_slice()))?;
@@ -122,7 +125,7 @@ fn sorted_items(alloc: Global, items: Vec<HostItem>) -> io::Result<HostList> {
     Ok(list)
 }
 
-/// The objects in a directory, in the order in which the machine names them.
+/// Returns the objects of a directory in the order in which the machine gives them.
 fn items_in<R: Files + Alloc<A = Global> + Clone + Drop>(
     rt: &R,
     alloc: Global,
@@ -138,7 +141,7 @@ fn items_in<R: Files + Alloc<A = Global> + Clone + Drop>(
     Ok(items)
 }
 
-/// The listing of a directory.
+/// Lists a directory.
 fn listing_at<R: Files + Alloc<A = Global> + Clone + Drop>(
     rt: &R,
     alloc: Global,
@@ -151,7 +154,7 @@ fn listing_at<R: Files + Alloc<A = Global> + Clone + Drop>(
     }
 }
 
-/// The bytes of a file.
+/// Reads the bytes of a file.
 fn bytes_at<R: Files + Alloc<A = Global>>(rt: &R, path: &[u8]) -> io::Result<Option<Vec<u8>>> {
     let path = text_of(path)?;
     match kind_at(rt, path)? {
@@ -160,7 +163,8 @@ fn bytes_at<R: Files + Alloc<A = Global>>(rt: &R, path: &[u8]) -> io::Result<Opt
     }
 }
 
-/// The bytes of a file, unless they are more than so many. Its length is asked first, so that a longer one is not read.
+/// Reads the bytes of a file, unless there are more than `most`. It asks for the length first, so that a longer
+/// file is not read.
 fn bytes_within<R: Files + Alloc<A = Global>>(
     rt: &R,
     path: &[u8],
@@ -183,7 +187,7 @@ fn bytes_within<R: Files + Alloc<A = Global>>(
     }
 }
 
-/// Writes a file whole, unless something stands there that is none.
+/// Writes a file as a whole, unless there is another object at the path.
 fn write_at<R: Files + Alloc<A = Global>>(rt: &R, path: &[u8], bytes: &[u8]) -> io::Result<()> {
     let path = text_of(path)?;
     match kind_at(rt, path)? {
@@ -202,7 +206,7 @@ fn rename_at<R: Files>(rt: &R, from: &[u8], to: &[u8]) -> io::Result<()> {
     fs::rename(rt, text_of(from)?, text_of(to)?)
 }
 
-/// Moves a file, and brings it to the disk.
+/// Renames a file, and syncs it to the disk.
 fn replace_at<R: Files + Alloc<A = Global>>(rt: &R, from: &[u8], to: &[u8]) -> io::Result<()> {
     replace(rt, rt.alloc(), text_of(from)?, text_of(to)?)
 }

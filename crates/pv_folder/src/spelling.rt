@@ -1,4 +1,4 @@
-//! Paths of a host as paths of a tree.
+//! Turns paths of a host into paths of a tree.
 ghost use Rattle.std.specs.Prelude.{◌≡◌, ◌++◌, ◌∷◌, [], true, false, length, nat_lt, Ok, None, IfOk, IfSome, OnOk, IsErr};
 ghost use Rattle.pv_path.specs.Paths.{has_names};
 ghost use Rattle.pv_folder.specs.Content.{names_among, spelled};
@@ -6,7 +6,7 @@ ghost use Rattle.pv_folder.specs.Content.{names_among, spelled};
 use pv_path::{Name, TreePath, is_name, pieces_of};
 use std::alloc::{AllocError, Global};
 
-/// The path that bytes spell, or nothing if a name of it is none that a tree can have.
+/// Returns the path that bytes spell, or `None` if it has a name that a tree cannot have.
 pub(crate) fn path_of(alloc: Global, bytes: &[u8]) -> Result<Option<TreePath>, AllocError>
     ensures path { IfOk result (λ path. IfSome path (λ p. p ≡ spelled bytes.now)) }
     ensures none { result ≡ Ok None → has_names (spelled bytes.now) ≡ false }
@@ -21,7 +21,8 @@ pub(crate) fn path_of(alloc: Global, bytes: &[u8]) -> Result<Option<TreePath>, A
     Ok(Some(path))
 }
 
-/// Adds what stands between two slashes to a path, and answers whether a tree can have it; an empty piece adds nothing.
+/// Appends what is between two slashes to a path, and tells whether a tree can have it. An empty piece adds
+/// nothing.
 fn add_piece(alloc: Global, path: &mut TreePath, piece: &[u8]) -> Result<bool, AllocError>
     ensures added { IfOk result (λ fits. fits ≡ true → path.new ≡ path.old ++ names_among (piece.now ∷ [])) }
     ensures unfit { IfOk result (λ fits. fits ≡ false → has_names (names_among (piece.now ∷ [])) ≡ false) }

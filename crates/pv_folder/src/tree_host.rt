@@ -1,9 +1,5 @@
 //! The calls of a host, over a tree in memory.
-ghost use Rattle.std.specs.Prelude.{◌≡◌, ◌↔◌, [], true, None, Some, option_map, IsTrue, IfOk, OnOk, OnErr, IsErrOf};
-ghost use Rattle.std.specs.FinMap as fin;
-ghost use Rattle.std.specs.Ordering.{is_lt};
-ghost use Rattle.pv_path.specs.Paths.{has_names, parent_of, path_cmp};
-ghost use Rattle.pv_steps.specs.Objects.{IsObject};
+ghost use Rattle.std.specs.Prelude.{◌≡◌, ◌↔◌, [], None, Some, option_map, IsTrue, IfOk, OnOk, OnErr, IsErrOf};
 ghost use Rattle.pv_steps.specs.declared.node.Kind.TheVariants.{Directory, File};
 ghost use Rattle.pv_steps.specs.Trees.{IsKind, IsTree, kind_of, places};
 ghost use Rattle.pv_steps.specs.Steps.{Can, HasRoom, after_at};
@@ -12,14 +8,15 @@ ghost use Rattle.pv_folder.specs.Content.{May, bytes_of, held, items_in, listing
 ghost use Rattle.pv_folder.specs.Content.Change.{MakeDir, RemoveDir, RemoveFile, Rename, WriteFile};
 ghost use Rattle.pv_folder.specs.Memory.{Becomes, content_of, host_kind, item_at};
 
+use crate::growing::add_at;
 use crate::host::HostFault;
 use crate::item::{HostItem, HostKind, HostList};
 use pv_path::{Bytes, Name, TreePath, child};
 use pv_steps::{Kind, Node, Object, Step, Tree, is_directory};
-use pv_tree::{BuildFault, MemTree, TreeBuilder};
+use pv_tree::{MemTree, TreeBuilder};
 use std::alloc::{AllocError, Global};
 
-/// What an object of a tree is to a host.
+/// Returns the kind that an object of a tree has for a host.
 fn host_kind(kind: Kind) -> HostKind
     ensures { result ≡ host_kind kind }
 {
@@ -30,7 +27,7 @@ fn host_kind(kind: Kind) -> HostKind
     }
 }
 
-/// The kind of the object at a path of a tree, or nothing if it is absent.
+/// Returns the kind of the object at a path of a tree, or `None` if it is absent.
 pub(crate) fn kind_at(tree: &MemTree, path: &TreePath) -> Option<Kind>
     ensures kind { result ≡ kind_of (places tree.now.files path.now) }
     ensures tree { IsTree tree.now.files }
@@ -41,7 +38,7 @@ pub(crate) fn kind_at(tree: &MemTree, path: &TreePath) -> Option<Kind>
     }
 }
 
-/// An object in a directory of a tree, as a host names it.
+/// Returns an object in a directory of a tree, as a host names it.
 fn item_of(
     alloc: Global,
     tree: &MemTree,
@@ -61,7 +58,7 @@ fn item_of(
     })
 }
 
-/// The objects in a directory of a tree.
+/// Returns the objects in a directory of a tree.
 fn items_of(alloc: Global, tree: &MemTree, path: &TreePath) -> Result<HostList, AllocError>
     requires { IsKind Directory tree.now.files path.now }
     ensures { IfOk result (λ items. items ≡ items_in (content_of tree.now.files) path.now) }
@@ -74,7 +71,7 @@ fn items_of(alloc: Global, tree: &MemTree, path: &TreePath) -> Result<HostList, 
     Ok(items)
 }
 
-/// The listing of a directory of a tree, or nothing if the path is none.
+/// Lists a directory of a tree. The answer is `None` if the path is not a directory.
 pub(crate) fn listing_of(
     alloc: Global,
     tree: &MemTree,
@@ -88,14 +85,14 @@ pub(crate) fn listing_of(
     Ok(Some(items_of(alloc, tree, path)?))
 }
 
-/// Whether a file stands at a path of a tree.
+/// Returns whether there is a file at a path of a tree.
 fn is_file(tree: &MemTree, path: &TreePath) -> bool
     ensures { IsTrue result ↔ IsKind File tree.now.files path.now }
 {
     matches!(kind_at(tree, path), Some(Kind::File))
 }
 
-/// The bytes of a file of a tree, or nothing if the path is none.
+/// Returns the bytes of a file of a tree, or `None` if the path is not a file.
 pub(crate) fn file_bytes(
     alloc: Global,
     tree: &MemTree,
@@ -110,7 +107,7 @@ pub(crate) fn file_bytes(
     Ok(Some(Vec::from_slice(alloc, tree.bytes(path))?))
 }
 
-/// Does a step of a tree. After running out of memory the tree is as before.
+/// Does a step of a tree. If memory runs out, the tree is as before.
 fn do_step(tree: &mut MemTree, step: Step) -> Result<(), HostFault>
     requires { Can (places tree.old.files) step }
     ensures ok { OnOk result (places tree.new.files ≡ after_at (places tree.old.files) step 0) }
@@ -123,7 +120,7 @@ fn do_step(tree: &mut MemTree, step: Step) -> Result<(), HostFault>
     }
 }
 
-/// Makes a directory in a tree. After running out of memory the tree is as before.
+/// Makes a directory in a tree. If memory runs out, the tree is as before.
 pub(crate) fn make_dir(tree: &mut MemTree, path: TreePath) -> Result<(), HostFault>
     requires { May (held (content_of tree.old.files)) (MakeDir path) }
     ensures ok { OnOk result (Becomes (MakeDir path) tree.old.files tree.new.files) }
@@ -133,7 +130,7 @@ pub(crate) fn make_dir(tree: &mut MemTree, path: TreePath) -> Result<(), HostFau
     do_step(tree, Step::MakeDir { path })
 }
 
-/// Renames the object at a path of a tree, with all below it. After running out of memory the tree is as before.
+/// Renames the object at a path of a tree, with everything below it. If memory runs out, the tree is as before.
 pub(crate) fn rename(tree: &mut MemTree, from: TreePath, to: TreePath) -> Result<(), HostFault>
     requires { May (held (content_of tree.old.files)) (Rename from to) }
     ensures ok { OnOk result (Becomes (Rename from to) tree.old.files tree.new.files) }
@@ -143,7 +140,7 @@ pub(crate) fn rename(tree: &mut MemTree, from: TreePath, to: TreePath) -> Result
     do_step(tree, Step::Rename { from, to })
 }
 
-/// Removes a file of a tree. After running out of memory the tree is as before.
+/// Removes a file of a tree. If memory runs out, the tree is as before.
 pub(crate) fn remove_file(tree: &mut MemTree, path: TreePath) -> Result<(), HostFault>
     requires { May (held (content_of tree.old.files)) (RemoveFile path) }
     ensures ok { OnOk result (Becomes (RemoveFile path) tree.old.files tree.new.files) }
@@ -153,7 +150,7 @@ pub(crate) fn remove_file(tree: &mut MemTree, path: TreePath) -> Result<(), Host
     do_step(tree, Step::Unlink { path })
 }
 
-/// Removes an empty directory of a tree. After running out of memory the tree is as before.
+/// Removes an empty directory of a tree. If memory runs out, the tree is as before.
 pub(crate) fn remove_dir(tree: &mut MemTree, path: TreePath) -> Result<(), HostFault>
     requires { May (held (content_of tree.old.files)) (RemoveDir path) }
     ensures ok { OnOk result (Becomes (RemoveDir path) tree.old.files tree.new.files) }
@@ -163,7 +160,7 @@ pub(crate) fn remove_dir(tree: &mut MemTree, path: TreePath) -> Result<(), HostF
     do_step(tree, Step::RemoveDir { path })
 }
 
-/// Writes a file of a tree anew. After running out of memory the tree is as before.
+/// Replaces the bytes of a file of a tree. If memory runs out, the tree is as before.
 fn rewrite(tree: &mut MemTree, path: TreePath, content: Bytes) -> Result<(), HostFault>
     requires { IsKind File tree.old.files path }
     ensures ok { OnOk result (Becomes (WriteFile path content) tree.old.files tree.new.files) }
@@ -183,7 +180,7 @@ fn make_file(tree: &mut MemTree, path: TreePath) -> Result<(), HostFault>
     do_step(tree, Step::MakeFile { path })
 }
 
-/// A tree with one file more.
+/// Returns a copy of a tree with one more file.
 fn with_file(
     alloc: Global,
     tree: &MemTree,
@@ -200,7 +197,8 @@ fn with_file(
     Ok(more)
 }
 
-/// Writes a file of a tree whole. After running out of memory the tree is as before: a new file is made in a copy.
+/// Writes a file of a tree as a whole. A new file is made in a copy of the tree, so that the tree is as before if
+/// memory runs out.
 pub(crate) fn write_file(
     alloc: Global,
     tree: &mut MemTree,
@@ -219,27 +217,7 @@ pub(crate) fn write_file(
     Ok(())
 }
 
-/// Adds the next object of a tree to one in the making.
-fn add_copy(
-    alloc: Global,
-    builder: &mut TreeBuilder,
-    names: &[Name],
-    object: Object,
-) -> Result<(), AllocError>
-    requires names { has_names names.now ≡ true }
-    requires object { IsObject object }
-    requires after { is_lt (path_cmp builder.old.last names.now) ≡ true }
-    requires parent { IsKind Directory builder.old.files (parent_of names.now) }
-    ensures { OnOk result (builder.new ≡ record { files = fin.insert builder.old.files names.now object; last = names.now }) }
-{
-    match builder.add(TreePath::of(alloc, names)?, object) {
-        Ok(()) => Ok(()),
-        Err(BuildFault::Memory) => Err(AllocError),
-        Err(BuildFault::OutOfOrder | BuildFault::NoParent) => unreachable!(),
-    }
-}
-
-/// A copy of an object.
+/// Returns a copy of an object.
 fn object_of(alloc: Global, node: &Node, payload: &[u8]) -> Result<Object, AllocError>
     ensures { IfOk result (λ object. object ≡ record { node = node.now; payload = payload.now }) }
 {
@@ -249,7 +227,7 @@ fn object_of(alloc: Global, node: &Node, payload: &[u8]) -> Result<Object, Alloc
     })
 }
 
-/// A copy of the tree, with no step recorded.
+/// Copies the tree, with no step recorded.
 fn copy_of(alloc: Global, tree: &MemTree) -> Result<MemTree, AllocError>
     ensures { IfOk result (λ copy. copy.files ≡ tree.now.files) }
 {
@@ -261,7 +239,7 @@ fn copy_of(alloc: Global, tree: &MemTree) -> Result<MemTree, AllocError>
     walk.advance()?;
     while let Some(place) = walk.place() {
         let object = object_of(alloc, place.node, place.payload)?;
-        add_copy(alloc, &mut builder, place.names, object)?;
+        add_at(alloc, &mut builder, place.names, object)?;
         walk.advance()?;
     }
     Ok(builder.finish())

@@ -1,20 +1,22 @@
-//! Writes on the machine, each of which is done as a whole or not at all.
+//! Writes on the machine, each of which is done completely or not at all.
 use std::alloc::{AllocError, Global};
 use std::fs::{self, DirBuilder, File, OpenFile, OpenOptions};
 use std::io::{self, ErrorKind, Write};
 use std::os::unix::fs::{DirBuilderExt, OpenOptionsExt};
 use std::rt::Files;
 
-/// The name of the file that is written before it takes the place of another: the staging mark alone. No object is staged
-/// under it, since no name is empty.
+/// The name of the file that is written first and then renamed over another: the staging prefix alone.
+///
+/// No object is staged under this name, because no name is empty.
 const BESIDE: &str = ".#tf-";
 
-/// The modes of new files and directories: the owner's alone, since what others may read is said by the manifest.
+/// The modes of new files and directories: only the owner has permissions, because the manifest says what others
+/// may read.
 const FILE_MODE: u32 = 0o600;
 
 const DIRECTORY_MODE: u32 = 0o700;
 
-/// The path of the directory in which a path lies, with a slash at its end.
+/// Returns the path of the directory that a path is in, with a slash at its end.
 fn directory_of(alloc: Global, path: &str) -> Result<String, AllocError> {
     let directory = match path.rsplit_once('/') {
         Some((directory, _name)) => directory,
@@ -25,14 +27,14 @@ fn directory_of(alloc: Global, path: &str) -> Result<String, AllocError> {
     Ok(text)
 }
 
-/// The path of the file that is written first, in the same directory, so that it can be renamed to the path.
+/// Returns the path of the file that is written first. It is in the same directory, so that it can be renamed.
 fn beside(alloc: Global, path: &str) -> Result<String, AllocError> {
     let mut text = directory_of(alloc, path)?;
     text.push_str(BESIDE)?;
     Ok(text)
 }
 
-/// Whether a path is that of a file that is written first.
+/// Returns whether a path is that of a file that is written first.
 fn is_beside(path: &str) -> bool {
     match path.rsplit_once('/') {
         Some((_directory, name)) => name == BESIDE,
@@ -40,7 +42,7 @@ fn is_beside(path: &str) -> bool {
     }
 }
 
-/// Makes an empty file where nothing is.
+/// Makes an empty file at an absent path.
 fn make_empty<R: Files>(rt: &R, path: &str) -> io::Result<R::File> {
     OpenOptions::new()
         .write(true)
@@ -68,8 +70,9 @@ fn write_and_rename<R: Files>(rt: &R, new: &str, path: &str, bytes: &[u8]) -> io
     fs::rename(rt, new, path)
 }
 
-/// Writes a file whole where a file or nothing is. After an error, and after a kill, the old file is there as it was, and the
-/// file beside it may be left.
+/// Writes a file as a whole, where there is a file or nothing.
+///
+/// After an error or a kill, the old file is there as it was, and the file beside it may be left.
 pub(crate) fn write_whole<R: Files>(
     rt: &R,
     alloc: Global,
@@ -84,7 +87,7 @@ pub(crate) fn write_whole<R: Files>(
     done
 }
 
-/// Brings a file or a directory to the disk, where its file system has a call for that.
+/// Syncs a file or a directory to the disk, if its file system has a call for that.
 fn sync<R: Files>(rt: &R, path: &str) -> io::Result<()> {
     let file = File::open(rt, path)?;
     match file.sync_all() {
@@ -93,12 +96,12 @@ fn sync<R: Files>(rt: &R, path: &str) -> io::Result<()> {
     }
 }
 
-/// Whether a sync was answered so because the file system has none (fsync(2): EINVAL).
+/// Returns whether this error of a sync means that the file system has none (fsync(2): EINVAL).
 fn has_no_sync(kind: ErrorKind) -> bool {
     matches!(kind, ErrorKind::InvalidInput | ErrorKind::Unsupported)
 }
 
-/// Brings a file to the disk, renames it, and brings the directory to the disk in which it then lies.
+/// Syncs a file to the disk, renames it, and syncs the directory that it is then in.
 pub(crate) fn replace<R: Files>(rt: &R, alloc: Global, from: &str, to: &str) -> io::Result<()> {
     let directory = directory_of(alloc, to)?;
     sync(rt, from)?;
@@ -111,7 +114,8 @@ pub(crate) fn make_directory<R: Files>(rt: &R, path: &str) -> io::Result<()> {
     DirBuilder::new().mode(DIRECTORY_MODE).create(rt, path)
 }
 
-/// Removes a file. One that an earlier run left beside another may be gone: the next write there has taken it away.
+/// Removes a file. If an earlier run left it beside another file, it may be gone already: the next write there
+/// removes it.
 pub(crate) fn remove<R: Files>(rt: &R, path: &str) -> io::Result<()> {
     match fs::remove_file(rt, path) {
         Err(error) if error.kind() == ErrorKind::NotFound && is_beside(path) => Ok(()),

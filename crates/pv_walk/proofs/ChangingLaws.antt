@@ -19,7 +19,7 @@ use Rattle.pv_steps.specs.declared.tree.TreeFault.{TreeFault}
 use Rattle.pv_steps.specs.Objects.{object_state, changed, with_mode, AclFits, AttrsFit, LettersFit}
 use Rattle.pv_steps.specs.Trees.{Files, Places, places, kind_of, node_at, IsPresentIn, IsKindIn, IsTree}
 use Rattle.pv_steps.specs.Steps.{Can, TakesAcl, after, after_at, put_at, on_at}
-use Rattle.pv_steps.specs.Runs.{IsNotIdle}
+use Rattle.pv_steps.specs.Runs.{HasEffect}
 use Rattle.pv_steps.specs.Acting.{Acted}
 use Rattle.pv_steps.specs.Counting.{refused}
 use Rattle.pv_steps.proofs.ActingLaws.{Moves, Asks, acted_then, acted_weaken}
@@ -82,7 +82,7 @@ module _ (path : Path) (change : Object → Object) (now : ℕ) (t : Files) (o :
     changed_on differs (Err e) u done = tt
 
     -- the step may be asked for
-    pub change_asks : (Q : Step → Type 0) → Keeps change → change o ≢ o → Can (places t) s → (Differ t (after t s now) → IsNotIdle t s now) → Q s → Asks (Changing path change t) Q t s now
+    pub change_asks : (Q : Step → Type 0) → Keeps change → change o ≢ o → Can (places t) s → (Differ t (after t s now) → HasEffect t s now) → Q s → Asks (Changing path change t) Q t s now
     change_asks Q keeps differs can busy q = record { start = inl (λ q. refl); can = can; busy = busy (change_busy keeps differs); there = changing_one; gives = q }
 
 -- ---- one change after another
@@ -400,7 +400,7 @@ module _ (path : Path) (new : Metadata) (t : Files) (can : CanSetMetadata t path
 
   -- one part of a node, which a step gives where the object lacks it
   module _ {A : Type 0} (part : Node → A) (wanted : A) (change : Object → Object) (keeps : Keeps change) (wears : (o : Object) → part o.node ≡ wanted → change o ≡ o) (worn : (o : Object) → change o ≡ o → part o.node ≡ wanted)
-      (step : Step) (leaves : (now : ℕ) → after_at (places t) step now ≡ on_at path (λ x. changed now (change x)) (places t)) (busy : (now : ℕ) → Differ t (after t step now) → IsNotIdle t step now) where
+      (step : Step) (leaves : (now : ℕ) → after_at (places t) step now ≡ on_at path (λ x. changed now (change x)) (places t)) (busy : (now : ℕ) → Differ t (after t step now) → HasEffect t step now) where
     pub part_none : (now : ℕ) → part node ≡ wanted → ChangedAt change path now t t
     part_none now h = changed_none path change now t object there (wears object (sym (ap part standing.1.1) ∙ h)) t refl
 

@@ -20,7 +20,7 @@ use Rattle.pv_walk.specs.declared.operation.Operation.{Operation}
 use Rattle.pv_walk.specs.declared.operation.Operation.TheVariants.{Make, Renew, Erase, Apply}
 use Rattle.pv_steps.specs.Objects.{is_directory}
 use Rattle.pv_walk.specs.Operations.{run, done, changed, admits}
-use Rattle.pv_walk.specs.Reasons.{is_base, is_adjusting, is_append, is_masked, gives_base, is_make, is_renewal, is_idle, is_erasure, no_entries, makes_late, IsRepeatable}
+use Rattle.pv_walk.specs.Reasons.{is_base, is_adjusting, is_append, is_masked, gives_base, is_make, is_renewal, sets_nothing, is_erasure, no_entries, makes_late, IsRepeatable}
 use Rattle.pv_walk.specs.Dividing.{base_line, parts_of, parts}
 use Rattle.pv_walk.proofs.Settling.{settled_twice}
 use Rattle.pv_walk.proofs.Repeating.{run-append}
@@ -246,7 +246,7 @@ late-parts (Renew test new ∷ xs) = any-parts is_renewal (λ guard line how e. 
 late-parts (Erase ∷ xs) = no_makes xs
 late-parts (Apply guard (Write bytes) ∷ xs) = no_makes xs
 late-parts (Apply guard (Append bytes) ∷ xs) = no_makes xs
-late-parts (Apply guard (Owner uid gid) ∷ xs) = by (is_idle (Owner uid gid)) (late-parts xs)
+late-parts (Apply guard (Owner uid gid) ∷ xs) = by (sets_nothing (Owner uid gid)) (late-parts xs)
   where
     by : (t : Bool) → makes_late (parts xs) ≡ makes_late xs → (if t then makes_late (parts xs) else list_any is_make (parts xs)) ≡ (if t then makes_late xs else list_any is_make xs)
     by true rest = rest

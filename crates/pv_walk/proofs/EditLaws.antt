@@ -4,7 +4,7 @@ use Rattle.std.proofs.Common.{refl, sym, ap, subst, ◌∙◌, inl, inr, ◌⊎�
 use Rattle.pv_path.specs.Paths.{Path, same_path, is_prefix, rest_under, parent_of, has_staging, same_path-decides}
 use Rattle.pv_path.proofs.PathLaws.{same_path-refl, parent_of-differs, has_staging-extends, same_path-no}
 use Rattle.pv_steps.specs.declared.object.Object.{Object}
-use Rattle.pv_steps.specs.Objects.{object_state, changed, modified}
+use Rattle.pv_steps.specs.Objects.{object_state, modified}
 use Rattle.pv_steps.specs.Trees.{Files, Places}
 use Rattle.pv_steps.specs.Steps.{put_at, on_at, touched, made, moved, moved_at}
 use Rattle.pv_steps.specs.Same.{object_states, Same}

@@ -13,7 +13,7 @@ use Rattle.pv_walk.specs.declared.operation.Operation.{Operation}
 use Rattle.pv_walk.specs.declared.operation.Operation.TheVariants.{Renew, Erase}
 use Rattle.pv_walk.specs.Nodes.{object_state_of, object_states_of}
 use Rattle.pv_walk.specs.Operations.{run, stays}
-use Rattle.pv_walk.specs.Reasons.{is_adjusting, is_idle, is_make, is_erasure, makes_late, has_late_make, IsRepeatable}
+use Rattle.pv_walk.specs.Reasons.{is_adjusting, sets_nothing, is_make, is_erasure, makes_late, has_late_make, IsRepeatable}
 use Rattle.pv_walk.proofs.Repeating as repeating
 
 -- objects that are the same except for their timestamps are the same without them
@@ -78,7 +78,7 @@ pub absorbed : (xs : List Operation) (k : ℕ) (b : Option ObjectState) → IsRe
 absorbed = repeating.absorbed
 
 -- where an object fails the test of the first make, the list ends as from nothing
-pub from_the_gap : (idle xs : List Operation) (test : Test) (new b : ObjectState) → list_all (is_adjusting is_idle) idle ≡ true → stays test new.body b.body ≡ false
+pub from_the_gap : (idle xs : List Operation) (test : Test) (new b : ObjectState) → list_all (is_adjusting sets_nothing) idle ≡ true → stays test new.body b.body ≡ false
     → run (idle ++ Renew test new ∷ xs) (Some b) ≡ run (idle ++ Renew test new ∷ xs) None
 from_the_gap = repeating.from_the_gap
 

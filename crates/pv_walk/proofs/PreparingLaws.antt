@@ -9,12 +9,12 @@ use Rattle.std.proofs.lemmas.List.FromFn.{get_or-map-range_with_len, length-map-
 use Rattle.std.proofs.lemmas.List.Filters.{length-filter_more}
 use Rattle.std.proofs.lemmas.Bool.{and_parts}
 use Rattle.pv_path.specs.Paths.{Path, same_path, parent_of, has_staging, staging_of}
-use Rattle.pv_path.proofs.PathLaws.{length-parent_of, has_staging-staging_of, length-prefix, is_prefix-take, has_some_names, has_staging-take}
+use Rattle.pv_path.proofs.PathLaws.{is_prefix-parent_of, prefix_parts, length-parent_of, has_staging-staging_of, length-prefix, is_prefix-take, has_some_names, has_staging-take}
 use Rattle.pv_steps.specs.declared.node.Kind.TheVariants.{Directory}
 use Rattle.pv_steps.specs.declared.object.Object.{Object}
 use Rattle.pv_steps.specs.Objects.{object_state, modified}
-use Rattle.pv_steps.specs.Trees.{Files, Places, places, kind_of, IsAbsentIn, IsKind}
-use Rattle.pv_steps.proofs.TreeLaws.{kind_of-touched}
+use Rattle.pv_steps.specs.Trees.{Files, Places, places, kind_of, IsAbsentIn, IsKind, IsPresent, IsTree}
+use Rattle.pv_steps.proofs.TreeLaws.{kind_of-touched, present_above}
 use Rattle.pv_steps.proofs.StepLaws.{is_some-touched}
 use Rattle.pv_steps.specs.Steps.{put_at, made}
 use Rattle.pv_steps.specs.Same.{object_states}
@@ -209,6 +209,39 @@ absent_le f (suc i) (x ∷ xs) =
 
 pub absent_parents-le : (path : Path) (t : Files) (i : ℕ) → absent_parents path t i ≤ parent_count path t
 absent_parents-le path t i = absent_le (λ place. is_none (places t place)) i (parents_of path)
+
+-- in a tree where the parent is present, none is absent
+module _ (now : ℕ) (path : Path) (plain : has_staging path ≡ false) (t : Files) (tree : IsTree t) (pass : CanPass path t) (swept : IsSwept path t) (there : IsPresent t (parent_of path)) where
+  above_present : (k : ℕ) → k < length path → is_some (places t (take k path)) ≡ true
+  above_present k lt =
+      let high = above_take k path lt in
+      let parts = prefix_parts (take k path) (parent_of path) (is_prefix-parent_of (take k path) path high.0 high.1) in
+      present_above (places t) tree (take k path) parts.0 (subst (IsPresent t) parts.1 there)
+
+  parented_whole : (i : ℕ) → i < length path ⊎ i ≡ 0 → Parented now path t i t
+  parented_whole zero lt = record { here = refl; directory = tree.root; at = refl; pass = pass; swept = swept; ahead = λ k more le. refl }
+  parented_whole (suc i) lt =
+      let within : i + 1 < length path = later lt in
+      let same : places t ≡ with_parent now (places t) (take (i + 1) path) = sym (ap (λ b. cond b (places t) (made now (take (i + 1) path) (new_object parent_file now) (places t))) (above_present (i + 1) within)) in
+      let next : i + 1 ≡ suc i = omega arith in
+      subst (λ k. Parented now path t k t) next (parented_next now path plain t i within t (parented_whole i (inl (omega (arith, within)))) t same)
+    where
+      later : (suc i < length path) ⊎ (suc i ≡ 0) → i + 1 < length path
+      later (inl h) = omega (arith, h)
+      later (inr e) = absurd (omega (arith, e))
+
+  parented_last : Parented now path t (length path - 1) t
+  parented_last = parented_whole (length path - 1) (by path)
+    where
+      by : (p : Path) → (length p - 1 < length p) ⊎ (length p - 1 ≡ 0)
+      by [] = inr refl
+      by (n ∷ p) = inl (omega arith)
+
+  pub none_put : places t ≡ fold (with_parent now) (places t) (parents_of path)
+  none_put = parented_last.here ∙ ap (fold (with_parent now) (places t)) (take_all (length path - 1) (parents_of path) (omega (arith, length-parents path)))
+
+  pub parent_directory : IsKind Directory t (parent_of path)
+  parent_directory = parented_last.directory
 
 -- at the end all parents are put
 pub parented_end : (path : Path) (items : Path) (i : ℕ) → items ≡ parent_of path → length items ≤ i → take i (parents_of path) ≡ parents_of path

@@ -9,7 +9,7 @@ use Rattle.pv_path.proofs.PathLaws.{is_prefix-refl, is_prefix-append, prefix_who
 use Rattle.pv_steps.specs.declared.node.Kind.TheVariants.{Directory}
 use Rattle.pv_steps.specs.declared.object.Object.{Object}
 use Rattle.pv_steps.specs.Objects.{changed, modified, object_state}
-use Rattle.pv_steps.specs.Trees.{Files, Places, places, kind_of, IsPresentIn, IsAbsentIn, IsKindIn, IsTreeIn, IsPresent, IsTree}
+use Rattle.pv_steps.specs.Trees.{Files, Places, places, kind_of, IsPresentIn, IsKindIn, IsTreeIn, IsPresent, IsTree}
 use Rattle.pv_steps.specs.Steps.{touched, moved, moved_at, carried, Movable, Yields, absent, directories}
 use Rattle.pv_steps.specs.Same.{Differ}
 use Rattle.pv_walk.specs.Edits.{cut, taken, emptied}

@@ -9,7 +9,7 @@ use Rattle.pv_steps.specs.declared.node.Kind.{Kind}
 use Rattle.pv_steps.specs.declared.node.Kind.TheVariants.{Directory, File, Link, Fifo, CharDevice, BlockDevice}
 use Rattle.pv_steps.specs.Trees.{Files, Places, places, kind_of, IsPresent, IsEmptyIn, IsKind}
 use Rattle.pv_steps.specs.Steps.{Can, after, after_at, gone}
-use Rattle.pv_steps.specs.Runs.{IsNotIdle}
+use Rattle.pv_steps.specs.Runs.{HasEffect}
 use Rattle.pv_steps.specs.Same.{Differ}
 use Rattle.pv_steps.proofs.StepLaws.{at_after}
 use Rattle.pv_steps.specs.declared.tree.Tree.{Ghosts}
@@ -88,7 +88,7 @@ module _ (now : ℕ) (path : Path) where
     can_remove true kind = (kind.0 refl, (empty, nonempty))
     can_remove false kind = (present, λ is. (let no : false ≡ true = kind.1 is in cc))
 
-    removal_busy : (directory : Bool) → Differ t (after t (removal directory path) now) → IsNotIdle t (removal directory path) now
+    removal_busy : (directory : Bool) → Differ t (after t (removal directory path) now) → HasEffect t (removal directory path) now
     removal_busy true differ = differ
     removal_busy false differ = differ
 

@@ -25,7 +25,7 @@ use Rattle.pv_walk.specs.declared.operation.Operation.TheVariants.{Make, Renew, 
 use Rattle.pv_steps.specs.Objects.{is_directory}
 use Rattle.pv_walk.specs.Nodes.{is_link, same_kind}
 use Rattle.pv_walk.specs.Operations.{admits, stays, changed, done, run}
-use Rattle.pv_walk.specs.Reasons.{is_adjusting, is_append, is_masked, gives_base, is_make, is_renewal, is_erasure, is_idle, no_entries, has_append, has_mixed_mask, makes_late, has_late_make, IsRepeatable}
+use Rattle.pv_walk.specs.Reasons.{is_adjusting, is_append, is_masked, gives_base, is_make, is_renewal, is_erasure, sets_nothing, no_entries, has_append, has_mixed_mask, makes_late, has_late_make, IsRepeatable}
 use Rattle.pv_walk.proofs.NodeChanges.{Keeps}
 use Rattle.pv_walk.proofs.Absorbing.{adjusted, all_adjusted, keeps-adjusted, adjusted_twice}
 
@@ -142,7 +142,7 @@ acl_after-none acl [] [] how false h = refl
 acl_after-none acl [] (d ∷ ds) how directory h = cc
 acl_after-none acl (e ∷ es) ds how directory h = cc
 
-idle-changed : (kind : Kind) (c : Change) → is_idle c ≡ true → (b : ObjectState) → changed kind c b ≡ b
+idle-changed : (kind : Kind) (c : Change) → sets_nothing c ≡ true → (b : ObjectState) → changed kind c b ≡ b
 idle-changed kind (Write bytes) h b = cc
 idle-changed kind (Append bytes) h b = cc
 idle-changed kind (Mode mode masked) h b = cc
@@ -153,7 +153,7 @@ idle-changed kind (Owner None (Some gid)) h b = cc
 idle-changed kind (Owner (Some uid) gid) h b = cc
 idle-changed kind (Entries line how) h b = λ i. record b { metadata = record b.metadata { acl = acl_after-none b.metadata.acl line.access line.default_part how (is_directory kind) h i } }
 
-idle-done : (x : Operation) → is_adjusting is_idle x ≡ true → (b : Option ObjectState) → done x b ≡ b
+idle-done : (x : Operation) → is_adjusting sets_nothing x ≡ true → (b : Option ObjectState) → done x b ≡ b
 idle-done (Make new) h b = cc
 idle-done (Renew test new) h b = cc
 idle-done Erase h b = cc
@@ -194,7 +194,7 @@ unmixed-rest x xs (inr h) = inr (or_parts (is_adjusting gives_base x) (list_any 
 twice : (xs : List Operation) → list_any is_erasure xs ≡ false → has_append xs ≡ false → Unmixed xs → makes_late xs ≡ false → (b : Option ObjectState) → run xs (run xs b) ≡ run xs b
 twice [] erase append mask late b = refl
 twice (x ∷ xs) erase append mask late b =
-    by (is_adjusting is_idle x) (is_make x) refl refl late
+    by (is_adjusting sets_nothing x) (is_make x) refl refl late
     (λ e. twice xs (or_parts (is_erasure x) (list_any is_erasure xs) erase).1 (or_parts (is_adjusting is_append x) (has_append xs) append).1 (unmixed-rest x xs mask) e b)
   where
     erased : (is_erasure x ≡ false) × (list_any is_erasure xs ≡ false)
@@ -209,7 +209,7 @@ twice (x ∷ xs) erase append mask late b =
     by_make Erase m r = cc
     by_make (Apply guard change) m r = cc
 
-    by : (idle make : Bool) → is_adjusting is_idle x ≡ idle → is_make x ≡ make → (if idle then makes_late xs else if make then list_any is_renewal xs else list_any is_make xs) ≡ false
+    by : (idle make : Bool) → is_adjusting sets_nothing x ≡ idle → is_make x ≡ make → (if idle then makes_late xs else if make then list_any is_renewal xs else list_any is_make xs) ≡ false
         → (makes_late xs ≡ false → run xs (run xs b) ≡ run xs b) → run (x ∷ xs) (run (x ∷ xs) b) ≡ run (x ∷ xs) b
     by true make i m e rest =
         ap (λ (o : Option ObjectState). run xs o) (idle-done x i (run xs (done x b))) ∙ ap (λ (o : Option ObjectState). run xs (run xs o)) (idle-done x i b)
@@ -224,7 +224,7 @@ twice (x ∷ xs) erase append mask late b =
 -- nothing is said against them where nothing is said against all
 makes_late-front : (xs ys : List Operation) → makes_late (xs ++ ys) ≡ false → makes_late xs ≡ false
 makes_late-front [] ys h = refl
-makes_late-front (x ∷ xs) ys h = by (is_adjusting is_idle x) (is_make x) h (makes_late-front xs ys)
+makes_late-front (x ∷ xs) ys h = by (is_adjusting sets_nothing x) (is_make x) h (makes_late-front xs ys)
   where
     by : (idle make : Bool) → (if idle then makes_late (xs ++ ys) else if make then list_any is_renewal (xs ++ ys) else list_any is_make (xs ++ ys)) ≡ false
         → (makes_late (xs ++ ys) ≡ false → makes_late xs ≡ false) → (if idle then makes_late xs else if make then list_any is_renewal xs else list_any is_make xs) ≡ false
@@ -296,12 +296,12 @@ absorbed xs k b h = by (list_any is_erasure xs) refl
 
 -- ---- what was there before
 
-idle-run : (xs : List Operation) → list_all (is_adjusting is_idle) xs ≡ true → (b : Option ObjectState) → run xs b ≡ b
+idle-run : (xs : List Operation) → list_all (is_adjusting sets_nothing) xs ≡ true → (b : Option ObjectState) → run xs b ≡ b
 idle-run [] h b = refl
-idle-run (x ∷ xs) h b = let e = and_parts (is_adjusting is_idle x) (list_all (is_adjusting is_idle) xs) h in ap (λ (o : Option ObjectState). run xs o) (idle-done x e.0 b) ∙ idle-run xs e.1 b
+idle-run (x ∷ xs) h b = let e = and_parts (is_adjusting sets_nothing x) (list_all (is_adjusting sets_nothing) xs) h in ap (λ (o : Option ObjectState). run xs o) (idle-done x e.0 b) ∙ idle-run xs e.1 b
 
 -- where an object fails the test of the first make, the list ends as from nothing
-pub from_the_gap : (idle xs : List Operation) (test : Test) (new b : ObjectState) → list_all (is_adjusting is_idle) idle ≡ true → stays test new.body b.body ≡ false
+pub from_the_gap : (idle xs : List Operation) (test : Test) (new b : ObjectState) → list_all (is_adjusting sets_nothing) idle ≡ true → stays test new.body b.body ≡ false
     → run (idle ++ Renew test new ∷ xs) (Some b) ≡ run (idle ++ Renew test new ∷ xs) None
 from_the_gap idle xs test new b h fails =
     run-append idle (Renew test new ∷ xs) (Some b) ∙ ap (λ (o : Option ObjectState). run (Renew test new ∷ xs) o) (idle-run idle h (Some b))

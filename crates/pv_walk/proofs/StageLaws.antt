@@ -20,7 +20,7 @@ use Rattle.pv_steps.specs.Trees.{Files, Places, places, kind_of, IsKindIn, IsAbs
 use Rattle.pv_steps.specs.Steps.{Can, HasRoom, after, after_at, on_at, made}
 use Rattle.pv_steps.proofs.StepLaws.{at_after}
 use Rattle.pv_steps.specs.Same.{object_states, Differ}
-use Rattle.pv_steps.specs.Runs.{IsNotIdle}
+use Rattle.pv_steps.specs.Runs.{HasEffect}
 use Rattle.pv_steps.proofs.ActingLaws.{Asks}
 use Rattle.pv_walk.specs.Edits.{SameOutside}
 use Rattle.pv_walk.specs.SettingMetadata.{with_metadata, with_first_changes, SettingMetadata}
@@ -92,7 +92,7 @@ module _ (path : Path) (nonempty : path ≢ []) (now : ℕ) (t : Files) (room : 
   made_differs : (what : NewKind) → Differ t (after t (make_step path what) now)
   made_differs what = (path, λ e. (let no : None ≡ Some (object_state (first_object what now)) = sym (ap (option_map object_state) room.0) ∙ e ∙ ap (λ p. object_states p path) (after_make what (after t (make_step path what) now) refl) ∙ ap (option_map object_state) (made-here now path (places t) nonempty (first_object what now)) in cc))
 
-  make_busy : (what : NewKind) → IsNotIdle t (make_step path what) now
+  make_busy : (what : NewKind) → HasEffect t (make_step path what) now
   make_busy new.Directory = made_differs new.Directory
   make_busy (new.File content) = made_differs (new.File content)
   make_busy (new.Link target) = made_differs (new.Link target)

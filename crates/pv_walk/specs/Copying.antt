@@ -1,5 +1,5 @@
--- Copies: what is at and below one path comes once more to another, each object with all it has but its timestamps
--- (tmpfiles.d(5), C; cp(1), -a).
+-- Copies: the objects at and below one path are made again at another path, with everything except their timestamps
+-- (tmpfiles.d(5), type `C`; cp(1), `-a`).
 use Rattle.std.specs.Prelude.{◌≡◌, ◌≢◌, ◌⊎◌, ℕ, ◌≤◌, false, [], ◌∷◌, ◌++◌, length, filter, filter_map, Option, Some, None, IfSome, is_some, option_map, unwrap_or, if◌then◌else◌}
 use Rattle.std.specs.FinMap as fin
 use Rattle.pv_acl.specs.Parts.{acl_of_mode}
@@ -21,42 +21,43 @@ use Rattle.pv_walk.specs.Staging.{IsPublishing}
 
 -- ---- what is copied
 
--- what the top of a copy gets: a mode and IDs
+-- What the top of a copy gets is in range: its mode, its owner and its owning group, as far as they are given.
 pub record IsTopNode (top : TopNode) : Type 0 where
   pub mode : IfSome top.mode (λ mode. mode ≤ 0o7777)
   pub uid : IfSome top.uid IsId
   pub gid : IfSome top.gid IsId
 
--- an object with this mode, if one is given; a link has none
+-- An object with this mode, if one is given. A link keeps its own.
 abbrev pub moded : Option ℕ → ObjectState → ObjectState
 moded None b = b
 moded (Some mode) b = if is_link b.body.kind then b else record b { metadata = with_mode b.body.kind mode false b.metadata }
 
--- the top of a copy has the mode and the owners that are given
+-- The top of a copy: the object with the mode and the owners that are given.
 abbrev pub topped : TopNode → ObjectState → ObjectState
 topped top b = moded top.mode (record b { metadata = record b.metadata { uid = unwrap_or top.uid b.metadata.uid; gid = unwrap_or top.gid b.metadata.gid } })
 
--- what is to stand at and below a path, by what comes after it
+-- The objects at and below a path. The argument is the rest of their path.
 abbrev pub Subtree : Type 0
 Subtree = Path → Option ObjectState
 
--- one object with nothing below it
+-- One object with nothing below it.
 abbrev pub single : ObjectState → Subtree
 single b [] = Some b
 single b (name ∷ rest) = None
 
--- the copy of what is at and below a path, with another top; staging names are left out
+-- The copy of the objects at and below a path. `top` says what becomes of the object at the path. Objects at or
+-- below staging names are left out.
 abbrev pub copy_from : (ObjectState → ObjectState) → Path → (Path → Option ObjectState) → Subtree
 copy_from top source at [] = option_map top (at source)
 copy_from top source at (name ∷ rest) = if has_staging (name ∷ rest) then None else at (source ++ name ∷ rest)
 
--- how many objects a copy has, of those at and below a path
+-- How many objects a copy has.
 abbrev pub copied_count : Subtree → Path → Files → ℕ
 copied_count subtree source t = length (filter (λ rest. is_some (subtree rest)) (filter_map (rest_under source) (fin.keys t)))
 
--- ---- what it leaves, timestamps included
+-- ---- what it leaves, with timestamps
 
--- an object with these timestamps
+-- An object with these timestamps.
 abbrev pub with_stamps : Stamps → ObjectState → Object
 with_stamps stamps b = record {
   node = record {
@@ -74,22 +75,25 @@ with_stamps stamps b = record {
   payload = b.body.payload;
 }
 
--- a new object, all four timestamps now
+-- A new object: all its timestamps are `now`.
 abbrev pub object_of : ℕ → ObjectState → Object
 object_of now b = with_stamps (stamped now) b
 
--- the object at a path that has this rest below the place of a subtree of new objects; the old object elsewhere
+-- The object at a path after a subtree was put. If the path is at or below that of the subtree, it is the new object
+-- or none. Otherwise it is the old one.
 abbrev pub standing : ℕ → Subtree → Option Object → Option Path → Option Object
 standing now subtree old None = old
 standing now subtree old (Some rest) = option_map (object_of now) (subtree rest)
 
--- a subtree of new objects stands at a path in the place of all that stood at and below it; its directory has changed
+-- The objects after a subtree of new objects was put at a path. It replaces all at and below it, and the directory
+-- above has new timestamps.
 abbrev pub with_subtree : ℕ → Path → Subtree → Places → Places
 with_subtree now path subtree t = touched now path (λ q. standing now subtree (t q) (rest_under path q))
 
 -- ---- single steps
 
--- a step makes an object without timestamps at a path, of its kind, with its target or numbers, or gives it a part of what it has
+-- A step contributes to making this object at a path. It makes an object of its kind, with its target or its device
+-- numbers, writes its content, or sets a part of its metadata.
 abbrev pub GivesObjectState : Path → ObjectState → Step → Type 0
 GivesObjectState path b (MakeDir at) = (at ≡ path) × (b.body.kind ≡ Directory)
 GivesObjectState path b (MakeFile at) = (at ≡ path) × (b.body.kind ≡ File)
@@ -104,14 +108,15 @@ GivesObjectState path b (SetAttrs at attrs) = (at ≡ path) × (attrs ≡ b.meta
 GivesObjectState path b (SetLetters at letters) = (at ≡ path) × (letters ≡ b.metadata.letters)
 GivesObjectState path b step = ⊥
 
--- an ACL, extended attributes and letters are given only if owners and mode do not leave them
+-- ACL, extended attributes and file attribute flags are set only if the object does not have them after its owners
+-- and mode were set.
 abbrev pub IsNeeded : ObjectState → Step → Type 0
 IsNeeded b (SetAcl at acl) = acl_of_mode (metadata_mode b.metadata) ≢ b.metadata.acl
 IsNeeded b (SetAttrs at attrs) = [] ≢ b.metadata.attrs
 IsNeeded b (SetLetters at letters) = 0 ≢ b.metadata.letters
 IsNeeded b step = Unit {0}
 
--- a step gives an object of a subtree that is made at a path what it has
+-- A step contributes to making an object of a subtree, if the subtree is made at this path.
 pub record GivesPart (path : Path) (subtree : Path → Option ObjectState) (step : Step) : Type 0 where
   pub rest : Path
   pub object : ObjectState
@@ -119,10 +124,10 @@ pub record GivesPart (path : Path) (subtree : Path → Option ObjectState) (step
   pub gives : GivesObjectState (path ++ rest) object step
   pub needed : IsNeeded object step
 
--- so under the staging name of a path
+-- The same at the staging path of a path.
 abbrev pub IsStagingOf : Path → Subtree → Step → Type 0
 IsStagingOf path subtree step = GivesPart (staging_of path) subtree step
 
--- a step stages an object of a copy, or publishes the copy
+-- A step contributes to making a copy at the staging path, or to publishing it.
 abbrev pub IsCopyStep : Path → Subtree → Step → Type 0
 IsCopyStep path subtree step = IsStagingOf path subtree step ⊎ IsPublishing path step

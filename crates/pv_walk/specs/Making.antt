@@ -1,4 +1,4 @@
--- How a new object comes to its staging name: the step that makes it, what it holds, and its metadata (mkdir(2),
+-- How a new object is made at its staging path: the step that makes it, its content, and its metadata (mkdir(2),
 -- mknod(2), symlink(2)).
 use Rattle.std.specs.Prelude.{◌≡◌, ◌⊎◌, ℕ, List, [], ◌∷◌, Option, Some, None}
 use Rattle.pv_path.specs.Paths.{Path, same_path}
@@ -17,7 +17,7 @@ use Rattle.pv_walk.specs.declared.new_file.NewKind.{NewKind}
 use Rattle.pv_walk.specs.declared.new_file.NewKind.TheVariants as new
 use Rattle.pv_walk.specs.Staging.{new_kind, new_payload, new_major, new_minor, new_mode}
 
--- the step that makes an object
+-- The Make step for a new object.
 abbrev pub make_step : Path → NewKind → Step
 make_step path new.Directory = MakeDir path
 make_step path (new.File content) = MakeFile path
@@ -25,32 +25,32 @@ make_step path (new.Link target) = MakeLink path target
 make_step path new.Fifo = MakeFifo path
 make_step path (new.Device block major minor) = MakeDevice path block major minor
 
--- the content that is written after it, if any
+-- The content that is written after this step, if the object is a file that is not empty.
 abbrev pub content_of : NewKind → Option (List ℕ)
 content_of (new.File []) = None
 content_of (new.File (b ∷ bytes)) = Some (b ∷ bytes)
 content_of kind = None
 
--- the mode that such a step gives
+-- The mode that this step gives: 0700 for a directory, 0777 for a link, otherwise 0600.
 abbrev pub made_mode : NewKind → ℕ
 made_mode new.Directory = 0o700
 made_mode (new.Link target) = 0o777
 made_mode kind = 0o600
 
--- what it holds then: the target of a link, otherwise nothing
+-- The payload after this step: the target of a link, otherwise nothing.
 abbrev pub first_payload : NewKind → List ℕ
 first_payload (new.Link target) = target
 first_payload kind = []
 
--- the object as such a step leaves it
+-- The object as this step leaves it.
 abbrev pub first_object : NewKind → ℕ → Object
 first_object what now = fresh (new_kind what) (made_mode what) (first_payload what) (new_major what) (new_minor what) now
 
--- the object with all it holds, in the mode and with the owners that such a step gives
+-- The object with its content. Mode and owners are still those that the Make step gives.
 abbrev pub held_object : NewKind → ℕ → Object
 held_object what now = fresh (new_kind what) (made_mode what) (new_payload what) (new_major what) (new_minor what) now
 
--- what it is to get its metadata
+-- The metadata of a new object.
 abbrev pub new_metadata : NewFile → Metadata
 new_metadata file = record {
   uid = file.uid;
@@ -61,15 +61,16 @@ new_metadata file = record {
   letters = 0;
 }
 
--- an object without timestamps as its Make step leaves it, or with all it holds
+-- An object without timestamps is as its Make step leaves it, or it has its content too.
 abbrev pub IsBegun : NewKind → ObjectState → Type 0
 IsBegun what there = (there ≡ object_state_of (first_object what 0)) ⊎ (there ≡ object_state_of (held_object what 0))
 
--- a step makes an object as it is first made, or writes its content
+-- A step makes an object, or writes its content.
 abbrev pub BeginsNew : Path → NewKind → Step → Type 0
 BeginsNew path what step = (step ≡ make_step path what) ⊎ ((content : List ℕ) × ((step ≡ Write path content) × (what ≡ new.File content)))
 
--- on the way of making it where nothing stood: nothing has changed elsewhere, timestamps aside, and it is not there yet, or only begun
+-- An intermediate state of making an object where nothing was. Nothing else has changed except timestamps. The
+-- object is not there yet, or it is as its Make step leaves it, or it has its content too.
 pub record Beginning (path : Path) (what : NewKind) (t u : Files) : Type 0 where
   pub outside : SameOutside (same_path path) t u
   pub here : (object_states_of (places u) path ≡ None) ⊎ ((there : ObjectState) × ((object_states_of (places u) path ≡ Some there) × IsBegun what there))

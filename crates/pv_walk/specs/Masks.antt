@@ -5,12 +5,12 @@ use Rattle.pv_acl.specs.Parts.{special_of}
 use Rattle.pv_steps.specs.declared.node.Kind.{Kind}
 use Rattle.pv_steps.specs.Objects.{is_directory}
 
--- read, write and execute, each where at least one of the three base entries has it
+-- Read, write and execute, as far as at least one of the three base entries grants them.
 abbrev pub granted : Part → ℕ
 granted part = bit_or part.owner (bit_or part.group part.other)
 
--- a part with the base entries of a masked mode: read, write and execute are lost where the part grants them
--- to nobody; the named entries and the mask stay
+-- A part of an ACL after a masked mode was set. The base entries are those of the mode, but no permission is set
+-- that none of the three entries granted before. Named entries and the mask stay.
 abbrev pub with_masked : ℕ → Part → Part
 with_masked mode part = record part {
   owner = bit_and (mode / 64 % 8) (granted part);
@@ -18,6 +18,6 @@ with_masked mode part = record part {
   other = bit_and (mode % 8) (granted part);
 }
 
--- the special bits of a masked mode, which only a directory gets
+-- The special bits of a masked mode. Only a directory gets them.
 abbrev pub masked_special : Kind → ℕ → ℕ
 masked_special kind mode = if is_directory kind then special_of mode else 0

@@ -20,25 +20,26 @@ use Rattle.pv_walk.specs.Masks.{with_masked, masked_special}
 use Rattle.pv_steps.specs.Objects.{is_directory}
 use Rattle.pv_walk.specs.Nodes.{carries_letters, is_file, is_link, same_kind, same_substance}
 
--- whether a change is for objects of a kind
+-- Whether a change is for objects of this kind.
 abbrev pub admits : Guard → Kind → Bool
 admits Every kind = true
 admits NoLink kind = not (is_link kind)
 admits (Only wanted) kind = same_kind wanted kind
 
--- whether an object stays where a new one is wanted
+-- Whether a present object stays if a new one is wanted. It has the same kind and, if the test is exact, the same
+-- target or device numbers. If the test spares directories, a directory stays in any case.
 abbrev pub stays : Test → Body → Body → Bool
 stays test new old =
     (same_kind new.kind old.kind && (not test.exact || same_substance new old))
     || (test.spares_directories && is_directory old.kind)
 
--- what an object of a kind has after its mode is set, masked or not
+-- The metadata of an object of a kind after a mode was set, masked or not.
 abbrev pub with_mode : Kind → ℕ → Bool → Metadata → Metadata
 with_mode kind mode false d = record d { special = special_of mode; acl = record d.acl { access = parts.with_mode mode d.acl.access } }
 with_mode kind mode true d = record d { special = masked_special kind mode; acl = record d.acl { access = with_masked mode d.acl.access } }
 
--- an object of a kind after a change: bytes are a file's alone, a default part is a directory's, a link has no extended
--- attributes, and files and directories alone have letters
+-- An object of a kind after a change. Only a file gets bytes, and only a directory gets a default part. A link gets
+-- no extended attributes, and only files and directories get file attribute flags.
 abbrev pub changed : Kind → Change → ObjectState → ObjectState
 changed kind (Write bytes) b = if is_file kind then record b { body = record b.body { payload = bytes } } else b
 changed kind (Append bytes) b = if is_file kind then record b { body = record b.body { payload = b.body.payload ++ bytes } } else b
@@ -48,7 +49,8 @@ changed kind (Entries line how) b = record b { metadata = record b.metadata { ac
 changed kind (Attrs attrs) b = if is_link kind then b else record b { metadata = record b.metadata { attrs = put_attrs attrs b.metadata.attrs } }
 changed kind (Letters how letters) b = if carries_letters kind then record b { metadata = record b.metadata { letters = letters_after how letters b.metadata.letters } } else b
 
--- an object that may be absent, after one operation
+-- What is at a path after one operation. Make makes the object if there is none. Renew also replaces one that does
+-- not stay. Erase removes it. Apply changes a present object that the guard admits.
 abbrev pub done : Operation → Option ObjectState → Option ObjectState
 done (Make new) None = Some new
 done (Make new) (Some b) = Some b
@@ -58,6 +60,6 @@ done Erase b = None
 done (Apply guard change) None = None
 done (Apply guard change) (Some b) = Some (if admits guard b.body.kind then changed b.body.kind change b else b)
 
--- after all operations of a list, in order
+-- What is at a path after several operations, one after the other.
 abbrev pub run : List Operation → Option ObjectState → Option ObjectState
 run operations b = fold (λ b operation. done operation b) b operations

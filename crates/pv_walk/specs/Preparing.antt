@@ -1,4 +1,4 @@
--- Preparing a path: staging names along it are taken away, and absent parents are put (tmpfiles.d(5)).
+-- Preparing a path: objects at staging names along it are removed, and absent parents are made (tmpfiles.d(5)).
 use Rattle.std.specs.Prelude.{◌≡◌, ◌≢◌, ℕ, true, false, List, [], length, filter, fold, Option, Some, None, is_some, is_none, if◌then◌else◌}
 use Rattle.pv_path.specs.Paths.{Path, is_prefix, parent_of, has_staging, staging_of}
 use Rattle.pv_steps.specs.declared.node.Kind.TheVariants.{Directory}
@@ -15,58 +15,60 @@ use Rattle.pv_walk.specs.declared.new_file.NewKind.TheVariants as new
 use Rattle.pv_walk.specs.Staging.{prefixes, staging_names, is_under_any, new_object}
 use Rattle.pv_walk.specs.Putting.{IsPutStep}
 
--- ---- what it leaves, timestamps included
+-- ---- what it leaves, with timestamps
 
--- the places above a path but the root, from the root on
+-- The paths above a path, except the root, from the root on.
 abbrev pub parents_of : Path → List Path
 parents_of path = prefixes (parent_of path)
 
--- an absent parent is made a directory 0755 of root
+-- A parent is made as a directory with mode 0755 that belongs to root.
 abbrev pub parent_file : NewFile
 parent_file = record { what = new.Directory; mode = 0o755; uid = 0; gid = 0 }
 
--- where nothing stands at a place, a parent is put there
+-- The objects after such a parent was made, if nothing is at its path.
 abbrev pub with_parent : ℕ → Places → Path → Places
 with_parent now t place = if is_some (t place) then t else made now place (new_object parent_file now) t
 
--- the same at each place above a path but the root, from the root on
+-- The same for each path above a path, from the root on.
 abbrev pub with_parents : ℕ → Path → Places → Places
 with_parents now path t = fold (with_parent now) t (parents_of path)
 
--- what an earlier run has staged along the path is taken away, and absent parents are put
+-- The objects after what an earlier run staged along a path was removed, and then absent parents were made.
 abbrev pub prepared : ℕ → Path → Places → Places
 prepared now path t = with_parents now path (all_taken now (staging_names path) t)
 
--- how many parents are absent
+-- How many parents of a path are absent.
 abbrev pub parent_count : Path → Files → ℕ
 parent_count path t = length (filter (λ place. is_none (places t place)) (parents_of path))
 
 -- ---- what it needs
 
--- a place above a path
+-- The first path is a proper prefix of the second. The root is above every other path.
 abbrev pub IsAbove : Path → Path → Type 0
 IsAbove q path = (is_prefix q path ≡ true) × (q ≢ path)
 
--- each present place above a path is a directory
+-- Each object above a path is a directory.
 abbrev pub CanPass : Path → Files → Type 0
 CanPass path t = (place : Path) → IsAbove place path → IsPresent t place → IsKind Directory t place
 
--- nothing stands at the staging names along a path
+-- Nothing is at the staging path of a path, or of a path above it.
 abbrev pub IsSwept : Path → Files → Type 0
 IsSwept path t = (place : Path) → place ≢ [] → is_prefix place path ≡ true → IsAbsentIn (places t) (staging_of place)
 
--- ---- on the way, timestamps and staging names aside
+-- ---- intermediate states, timestamps and staging names left out
 
--- at one path: what stood there, or a parent above the path where nothing stood
+-- At the path q there is what was there before. Or q is above the path, nothing was there, and the new parent is
+-- there.
 pub data IsPreparing (path q : Path) (old new : Option Object) : Type 0 where
   kept : new ≡ old → IsPreparing path q old new
   parent : IsAbove q path → old ≡ None → new ≡ Some (object_state (new_object parent_file 0)) → IsPreparing path q old new
 
--- at each path without a staging name
+-- An intermediate state of preparing: this holds at each path that has no staging name. Timestamps are left out.
 abbrev pub Preparing : Path → Files → Files → Type 0
 Preparing path t u = (q : Path) → has_staging q ≡ false → IsPreparing path q (object_states (places t) q) (object_states (places u) q)
 
--- a step takes something away at or below a staging name along the path, or puts a parent above it where nothing stood
+-- A step removes something at or below a staging path along the path, or it belongs to making a parent where nothing
+-- was.
 pub data IsPrepareStep (path : Path) (t : Files) (step : Step) : Type 0 where
   sweeps : Removes (is_under_any (staging_names path)) step → IsPrepareStep path t step
   puts : (place : Path) → IsAbove place path → IsAbsentIn (places t) place → IsPutStep place parent_file step → IsPrepareStep path t step

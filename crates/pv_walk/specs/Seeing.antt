@@ -12,31 +12,33 @@ use Rattle.pv_walk.specs.declared.walking.Seen.{Seen}
 use Rattle.pv_walk.specs.declared.walking.Walked.{Walked}
 use Rattle.pv_walk.specs.Walking.{outcome}
 
--- what a walk looks at of an object, where one stands: its kind and its owner
+-- What a walk looks at of an object, if there is one: its kind and its owner.
 abbrev pub seen_of : Option Object → Option Seen
 seen_of o = option_map (λ x. record { kind = x.node.kind; owner = x.node.uid }) o
 
--- the kind of what was seen, where something was
+-- The kind of what was seen, if there was an object.
 abbrev pub seen_kind : Option Seen → Option Kind
 seen_kind place = option_map (λ s. s.kind) place
 
--- the owner of what was seen, or the given one where nothing was
+-- The owner of what was seen, or this one if there was no object.
 abbrev pub seen_owner : Option Seen → ℕ → ℕ
 seen_owner place absent = option_map_or (λ s. s.owner) place absent
 
--- the reason that lies in the owner of a place, given the owner of the place above
+-- The reason `UnsafeOwner`, if it applies. Given are the owner of the object above and that of this one: the first
+-- is not root, and the two differ.
 abbrev pub why_owner : ℕ → ℕ → Option Why
 why_owner above owner = if not (above == 0) && not (owner == above) then Some UnsafeOwner else None
 
--- a place, where nothing stands there
+-- The number of names of a prefix, if nothing is there.
 abbrev pub if_absent : Option Seen → ℕ → Option ℕ
 if_absent None k = Some k
 if_absent (Some seen) k = None
 
--- the owner of the place above one; the root has no place above, which is as if root owned it
+-- The owner of the object above the prefix of k names. The root counts as if root owned the one above it.
 abbrev pub owner_above : Places → Path → ℕ → ℕ → ℕ
 owner_above t path last k = if k == 0 then 0 else owner_at t path last (k - 1)
 
--- what the walk answers from a place on, where no place before it is refused and this is the first absent one before it
+-- The answer of a walk from these prefixes on. No earlier one is refused, and `absent` is the first earlier one at
+-- which nothing is, if there is one.
 abbrev pub walked_from : Places → Path → ℕ → Option ℕ → List ℕ → Walked
 walked_from t path last absent ks = outcome (first_refused (why_refused t path last) ks) (option_or absent (first_absent t path ks))

@@ -1,4 +1,4 @@
--- Staging: what is made under a staging name before it is renamed into place (rename(2)).
+-- Staging: a new object is made under a staging name, and then renamed into place (rename(2)).
 use Rattle.std.specs.Prelude.{◌≡◌, ℕ, ◌≤◌, Bool, true, List, [], map, length, take, sum, nat_le}
 use Rattle.std.specs.List.{list_all, list_any, range_with_len}
 use Rattle.pv_path.specs.Paths.{Path, is_prefix, staging_of}
@@ -17,29 +17,29 @@ use Rattle.pv_walk.specs.declared.new_file.NewKind.TheVariants as new
 
 -- ---- staging names along a path
 
--- the non-root prefixes of a path, from the root on
+-- The prefixes of a path, except the root, from the root on. The path itself is the last.
 abbrev pub prefixes : Path → List Path
 prefixes path = map (λ k. take k path) (range_with_len 1 (length path))
 
--- the staging name of each of them
+-- The staging paths of these prefixes.
 abbrev pub staging_names : Path → List Path
 staging_names path = map staging_of (prefixes path)
 
--- whether a path lies at or below one of some paths
+-- Whether a path is at or below one of these paths.
 abbrev pub is_under_any : List Path → Path → Bool
 is_under_any paths q = list_any (λ p. is_prefix p q) paths
 
--- how many objects stand at and below some paths
+-- How many objects are at and below these paths, counted for each of them.
 abbrev pub count_at_all : Files → List Path → ℕ
 count_at_all files paths = sum (map (count_at files) paths)
 
--- each name leaves room for the five bytes of a staging name
+-- Whether each name of a path leaves room for the five bytes of a staging name: it has at most 250 bytes.
 abbrev pub can_stage : Path → Bool
 can_stage path = list_all (λ name. nat_le (length name) 250) path
 
 -- ---- new objects
 
--- the kind of a new object
+-- The kind of a new object.
 abbrev pub new_kind : NewKind → Kind
 new_kind new.Directory = Directory
 new_kind (new.File content) = File
@@ -47,39 +47,39 @@ new_kind (new.Link target) = Link
 new_kind new.Fifo = Fifo
 new_kind (new.Device block major minor) = device_kind block
 
--- the content of a file, the target of a link, otherwise no bytes
+-- The payload of a new object: the content of a file, the target of a link, otherwise no bytes.
 abbrev pub new_payload : NewKind → List ℕ
 new_payload (new.File content) = content
 new_payload (new.Link target) = target
 new_payload kind = []
 
--- a device's major number, otherwise 0
+-- The major number of a device, otherwise 0.
 abbrev pub new_major : NewKind → ℕ
 new_major (new.Device block major minor) = major
 new_major kind = 0
 
--- a device's minor number, otherwise 0
+-- The minor number of a device, otherwise 0.
 abbrev pub new_minor : NewKind → ℕ
 new_minor (new.Device block major minor) = minor
 new_minor kind = 0
 
--- a link has always mode 0777
+-- The mode of a new object. A link always has 0777.
 abbrev pub new_mode : NewKind → ℕ → ℕ
 new_mode (new.Link target) mode = 0o777
 new_mode kind mode = mode
 
--- what a new link needs: a target; any other object needs none
+-- A new link has a target that is allowed. Other objects need none.
 abbrev pub HasTarget : NewKind → Type 0
 HasTarget (new.Link target) = IsTarget target
 HasTarget kind = Unit {0}
 
--- what a new object needs: a mode, IDs, and of a link a target
+-- A new object is in range: its mode, its owner and owning group, and its target if it is a link.
 pub record IsNewFile (file : NewFile) : Type 0 where
   pub mode : file.mode ≤ 0o7777
   pub owner : IsId file.uid × IsId file.gid
   pub target : HasTarget file.what
 
--- the new object, all four timestamps now
+-- The new object: all its timestamps are `now`.
 abbrev pub new_object : NewFile → ℕ → Object
 new_object file now =
     let o = fresh (new_kind file.what) (new_mode file.what file.mode) (new_payload file.what) (new_major file.what) (new_minor file.what) now in
@@ -87,15 +87,16 @@ new_object file now =
 
 -- ---- steps
 
--- at most how many steps make a new object, with its content and its metadata
+-- At most how many steps make a new object with its content and its metadata.
 abbrev pub most_staged : ℕ
 most_staged = 7
 
--- and with the Rename that brings it to its path
+-- The same with the Rename that brings it into place.
 abbrev pub most_new : ℕ
 most_new = 8
 
--- a step makes the new object, of its kind, with its target or numbers; writes its content; or gives it its owners or its mode
+-- A step contributes to making the new object at a path. It makes it, with its target or its device numbers, writes
+-- its content, or sets its owners or its mode.
 abbrev pub GivesNew : Path → NewFile → Step → Type 0
 GivesNew path file (MakeDir at) = (at ≡ path) × (file.what ≡ new.Directory)
 GivesNew path file (MakeFile at) = (at ≡ path) × (new_kind file.what ≡ File)
@@ -107,7 +108,7 @@ GivesNew path file (SetOwner at uid gid) = (at ≡ path) × ((uid ≡ file.uid) 
 GivesNew path file (SetMode at mode) = (at ≡ path) × (mode ≡ new_mode file.what file.mode)
 GivesNew path file step = ⊥
 
--- a step takes something away at or below a path, or is the one that publishes the path
+-- A step belongs to publishing a path: it removes something at or below the path, or it is the Rename into place.
 abbrev pub IsPublishing : Path → Step → Type 0
 IsPublishing path (Unlink at) = is_prefix path at ≡ true
 IsPublishing path (RemoveDir at) = is_prefix path at ≡ true

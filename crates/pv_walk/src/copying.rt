@@ -1,4 +1,4 @@
-//! Copies of all that stands at and below a path.
+//! Copies of an object with everything below it (tmpfiles.d(5), type `C`).
 ghost use Rattle.std.specs.Prelude.{◌≡◌, ◌≢◌, ◌+◌, ◌*◌, [], true, false, OnOk};
 ghost use Rattle.pv_walk.specs.Edits.{count_at};
 ghost use Rattle.pv_walk.specs.Nodes.{object_states_of};
@@ -17,22 +17,29 @@ use pv_path::TreePath;
 use pv_steps::{Tree, TreeFault};
 use std::alloc::Global;
 
-/// What the top of a copy gets in the place of what is copied.
+/// The mode and the owners that the top of a copy gets. A field that is `None` is taken from the source.
 #[derive(Clone, Copy)]
 pub struct TopNode {
-    /// The mode, at most 07777, if one is given; not used for a link.
+    /// The mode as the 12 bits of chmod(2), at most 07777. It is not used if the top is a link.
     pub mode: Option<u16>,
-    /// The owner, at most 4294967294, if one is given.
+    /// The user ID of the owner, at most 4294967294.
     pub uid: Option<u32>,
-    /// The owning group, at most 4294967294, if one is given.
+    /// The ID of the owning group, at most 4294967294.
     pub gid: Option<u32>,
 }
 
-/// Makes a copy of the object at a source, with all below it, under the staging name of a path. Staging names are not
-/// copied. Each object has all that it has at the source, and all four timestamps now; the top gets the owners and the
-/// mode that it is given. A directory gets its owners and its mode once all below it is there. What there is to copy is
-/// listed before the first step. After a fault some of the steps may be done; nothing except the staging name and what
-/// is below it has changed.
+/// Copies the object at `source`, with everything below it, to the staging name of `path`.
+///
+/// Objects at staging names below the source are not copied. Each copied object has everything that it has at the
+/// source, except that its four timestamps are `now`, in microseconds since 1970-01-01 UTC. The top gets the mode
+/// and the owners of `top`. A directory gets its owners and its mode after everything below it was made.
+///
+/// The path must not be the root, its names must have at most 250 bytes, and its parent must be a directory. Nothing
+/// may be at the staging name, and the source must be present.
+///
+/// The errors are those of a step: `Failed` or `Memory`. After an error some of the steps may be done, but only the
+/// staging name and what is below it has changed, timestamps left out. The objects to copy are listed before the
+/// first step.
 pub fn stage_copy<T: Tree>(
     alloc: Global,
     tree: &mut T,
@@ -50,7 +57,7 @@ pub fn stage_copy<T: Tree>(
     ensures ok { OnOk result (places (T.state tree.new)
         ≡ with_subtree now (staging_of path.now) (copy_from (topped top.now) source.now (object_states_of (places (T.state tree.old))))
         (places (T.state tree.old))) }
-    // Whatever the answer, nothing stands under the staging name but stages of the copy, and nothing else has changed.
+    // Whatever the answer, under the staging name there are only stages of the copy, and nothing else has changed.
     ensures acted { let subtree = copy_from (topped top.now) source.now (object_states_of (places (T.state tree.old))) in
         Acted T.Tree (Staging (staging_of path.now) subtree (T.state tree.old)) (IsStagingOf path.now subtree)
         (most_staged * copied_count subtree source.now (T.state tree.old)) now tree.old tree.new result }
@@ -59,11 +66,15 @@ pub fn stage_copy<T: Tree>(
     stage_subtree(alloc, tree, path, pieces, now)
 }
 
-/// Puts a copy of the object at a source, with all below it, at a path in a directory. It replaces the old object and
-/// all below it. Staging names are not copied. Each object has all that it has at the source, and all four timestamps
-/// now; the top gets the owners and the mode that it is given. The copy is made under the staging name. It is renamed
-/// into place in one step with all below it, once the old object is out of the way. What there is to copy is listed
-/// before the first step.
+/// Copies the object at `source`, with everything below it, to `path`. The copy replaces the old object with
+/// everything below it.
+///
+/// The copy is complete under the staging name before anything of the old object is removed. Then it is renamed into
+/// place in one step. An old object that the rename can replace by itself is not removed first. `stage_copy` says what
+/// each copied object has, and gives the conditions. One more condition is that no name of the path is a staging name.
+///
+/// The errors are those of a step: `Failed` or `Memory`. After an error some of the steps may be done. At each
+/// moment the old object is as it was, or the copy is complete at its staging name or at the path.
 pub fn copy_over<T: Tree>(
     alloc: Global,
     tree: &mut T,
@@ -86,7 +97,7 @@ pub fn copy_over<T: Tree>(
         Acted T.Tree (Replacing path.now subtree (T.state tree.old)) (IsCopyStep path.now subtree)
         (count_at (T.state tree.old) path.now
         + most_new * copied_count subtree source.now (T.state tree.old)) now tree.old tree.new result }
-    // Under the staging name nothing stands but stages of the copy.
+    // Under the staging name there are only stages of the copy.
     ensures stages { let subtree = copy_from (topped top.now) source.now (object_states_of (places (T.state tree.old))) in
         Acted T.Tree (InStages (staging_of path.now) subtree) (IsCopyStep path.now subtree)
         (count_at (T.state tree.old) path.now

@@ -1,6 +1,14 @@
-//! Work on one object of a tree and on all below it. It walks along a path, and stages: a new object is made under a
-//! staging name and renamed to its path in one step. It sets metadata (owner, mode, ACL, extended attributes and file
-//! attribute flags), removes and finds.
+//! Work on one object of a tree and on everything below it: walking along a path, replacing, setting metadata,
+//! finding and removing.
+//!
+//! New objects are staged: they are made under a staging name, which begins with `.#tf-`, in the same directory. Then
+//! they are renamed into place in one step. Metadata are owner, mode, ACL, extended attributes and file attribute
+//! flags.
+//!
+//! [`walk`] checks that a path is safe to walk. [`prepare`] makes its parents, [`put_over`] puts a new object there,
+//! and [`copy_over`] a copy. [`set_metadata`] changes owners, mode and the rest. [`matching_paths`] finds what a
+//! pattern matches, and [`remove_below`] and [`sweep`] remove. The other items are the parts that these calls are made
+//! of, and what the phases of a run share.
 #![tactic(auto)]
 
 mod copying;

@@ -1,4 +1,4 @@
-//! All that stands at and below a path.
+//! Lists everything at and below a path.
 ghost use Rattle.std.specs.Prelude.{◌≡◌, ◌++◌, ◌∷◌, [], filter, is_some, if◌then◌else◌, IfOk, OnOk};
 ghost use Rattle.std.specs.FinMap as fin;
 ghost use Rattle.pv_path.specs.Paths.{is_prefix};
@@ -10,9 +10,10 @@ use pv_path::TreePath;
 use pv_steps::{Tree, is_present};
 use std::alloc::{AllocError, Global};
 
-/// The present paths at and below a path, in byte order, each before its children. It goes down by a list of what is
-/// still to do, and takes no more of the stack in a deep tree. What is listed is mostly in order already, backwards in
-/// a wide directory. The path itself comes before it once it is in order.
+/// Returns the present paths at and below a path, in byte order, so that a directory comes before what is in it.
+///
+/// The list is empty if the path is absent. The depth of the stack does not grow with the depth of the tree. The only
+/// error is `AllocError`.
 pub fn at_and_below<T: Tree>(
     alloc: Global,
     tree: &T,
@@ -27,7 +28,7 @@ pub fn at_and_below<T: Tree>(
     Ok(in_order(paths))
 }
 
-/// Adds a path at which something stands.
+/// Appends a copy of a path to a list, if there is an object at the path. The only error is `AllocError`.
 pub fn add_standing<T: Tree>(
     tree: &T,
     path: &TreePath,

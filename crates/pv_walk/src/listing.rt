@@ -1,4 +1,4 @@
-//! What there is to copy, listed in pieces of work before the first of them is done.
+//! Lists what there is to copy as pieces of work, before the first of them is done.
 ghost use Rattle.std.specs.Prelude.{◌≡◌, ◌≤◌, ◌*◌, ◌++◌, ◌∷◌, [], map, Some, IfOk, OnOk};
 ghost use Rattle.pv_walk.specs.Nodes.{object_states_of};
 ghost use Rattle.pv_steps.specs.Trees.{places, node_at, payload_at, IsTree};
@@ -15,35 +15,36 @@ use pv_path::{TreePath, child, has_staging};
 use pv_steps::{Kind, Node, Tree, is_directory, special_bits};
 use std::alloc::{AllocError, Global};
 
-/// A piece of work for one object of a copy, at a place below the top.
+/// A piece of work for one object of a copy. Its path is relative to the top.
 #[derive(Drop)]
 pub(crate) enum Piece {
-    /// The object is made, with what it holds.
+    /// The object is made, with its content or target.
     Make(TreePath, NewKind),
-    /// It gets its metadata.
+    /// The object gets its metadata.
     Give(TreePath, Metadata),
 }
 
 /// What is still to be listed.
 #[derive(Drop)]
 enum Task {
-    /// The object at a place below the top, with all below it.
+    /// The object at a path relative to the top, with everything below it.
     Open(TreePath),
     /// One piece.
     Close(Piece),
 }
 
-/// What is listed of a copy.
+/// The state while a copy is listed.
 #[derive(Drop)]
 struct Listing {
     /// What is still to be listed.
     work: Vec<Task>,
-    /// The pieces that are listed.
+    /// The pieces that were listed so far.
     pieces: Vec<Piece>,
 }
 
-/// The pieces of work of a copy, the last one first. Each object is made before its children, which come in byte order,
-/// each with all below it. Then it gets its metadata.
+/// Returns the pieces of work of a copy, the last one first.
+///
+/// Each object is made before what is in it, and gets its metadata after that.
 pub(crate) fn pieces_of<T: Tree>(
     alloc: Global,
     tree: &T,
@@ -70,7 +71,7 @@ pub(crate) fn pieces_of<T: Tree>(
     Ok(listing.pieces)
 }
 
-/// Lists the last pieces of a task, and leaves what comes before them.
+/// Lists the last pieces of a task, and leaves tasks for those before them.
 fn list_next<T: Tree>(
     alloc: Global,
     tree: &T,
@@ -92,7 +93,7 @@ fn list_next<T: Tree>(
     }
 }
 
-/// Opens a place: adds the last piece of its object, and leaves its children and its first piece.
+/// Opens an object: lists its last piece, and leaves tasks for what is in it and for its first piece.
 fn open<T: Tree>(
     alloc: Global,
     tree: &T,
@@ -131,7 +132,7 @@ fn add_object(rest: &TreePath, object: ObjectState, listing: &mut Listing) -> Re
     Ok(())
 }
 
-/// What an object is, with what it holds.
+/// Returns the kind of an object together with its content, target or device numbers.
 fn what_of(body: Body) -> NewKind
     ensures { result ≡ what_of body }
 {
@@ -153,7 +154,7 @@ fn what_of(body: Body) -> NewKind
     }
 }
 
-/// Leaves the children at a place, in byte order.
+/// Leaves tasks for what is in a directory, in byte order.
 fn open_children<T: Tree>(
     alloc: Global,
     tree: &T,
@@ -176,7 +177,7 @@ fn open_children<T: Tree>(
     Ok(())
 }
 
-/// The object of a copy at a place below the top, if any.
+/// Returns the object of a copy at a path relative to the top, if there is one.
 fn object_at<T: Tree>(
     alloc: Global,
     tree: &T,
@@ -197,7 +198,7 @@ fn object_at<T: Tree>(
     object_state_at(alloc, tree, &source.followed_by(rest.names())?)
 }
 
-/// The top of a copy, if any.
+/// Returns the top of a copy, if there is one.
 fn top_at<T: Tree>(
     alloc: Global,
     tree: &T,
@@ -213,7 +214,8 @@ fn top_at<T: Tree>(
     }
 }
 
-/// An object as the top of a copy: a link takes owners alone.
+/// Returns an object with the owners and the mode that `top` gives. A link gets only the owners, and what `top`
+/// does not give stays.
 pub fn topped(top: &TopNode, object: ObjectState) -> ObjectState
     ensures { result ≡ topped top.now object }
 {
@@ -233,7 +235,8 @@ pub fn topped(top: &TopNode, object: ObjectState) -> ObjectState
     new
 }
 
-/// The object at a path, without its timestamps, or nothing where nothing does.
+/// Returns the object at a path without its timestamps, or `None` if the path is absent. The only error is
+/// `AllocError`.
 pub fn object_state_at<T: Tree>(
     alloc: Global,
     tree: &T,
@@ -247,7 +250,7 @@ pub fn object_state_at<T: Tree>(
     }
 }
 
-/// The bytes of a file or the target of a link, otherwise no bytes.
+/// Returns the bytes of a file or the target of a link; empty for other kinds.
 fn payload_of<'a, T: Tree>(tree: &'a T, path: &TreePath, node: &Node) -> &'a [u8]
     requires tree { IsTree (T.state tree.now) }
     requires node { Some node.now ≡ node_at (T.state tree.now) path.now }

@@ -1,4 +1,4 @@
-//! Masked modes.
+//! Masked modes (tmpfiles.d(5), the prefix `~` of a mode).
 ghost use Rattle.std.specs.Prelude.{◌≡◌, bit_and, if◌then◌else◌};
 ghost use Rattle.pv_acl.specs.Parts.{with_mode};
 ghost use Rattle.pv_walk.specs.Masks.{granted, with_masked, masked_special};
@@ -6,8 +6,12 @@ ghost use Rattle.pv_walk.specs.Masks.{granted, with_masked, masked_special};
 use pv_acl::{Part, Perm};
 use pv_steps::{Kind, special_bits};
 
-/// Gives a part the base entries of a masked mode (tmpfiles.d(5), the prefix `~` of a mode). Read, write and execute
-/// are dropped if the part grants them to nobody. The named entries and the mask stay.
+/// Gives an ACL part the base entries of a masked mode (tmpfiles.d(5), the prefix `~` of a mode).
+///
+/// `mode` is the 12 bits of chmod(2). Of read, write and execute, only those are kept that at least one of the old
+/// base entries grants. The named entries and the mask stay.
+///
+/// For example, a file with mode 0644 grants execute to nobody, so the masked mode 0755 gives it 0644.
 pub fn set_masked_base(part: &mut Part, mode: u16)
     ensures { part.new ≡ with_masked mode part.old }
 {
@@ -18,7 +22,8 @@ pub fn set_masked_base(part: &mut Part, mode: u16)
     part.other = common(part.other, granted);
 }
 
-/// The special bits of a masked mode, which only a directory gets.
+/// Returns the special bits that a masked mode gives to an object of a kind. A directory gets those of the mode,
+/// and any other object gets none.
 pub fn masked_special(kind: Kind, mode: u16) -> u8
     ensures { result ≡ masked_special kind mode }
 {
@@ -29,14 +34,14 @@ pub fn masked_special(kind: Kind, mode: u16) -> u8
     }
 }
 
-/// Read, write and execute, each where one of the base entries has it.
+/// Returns those of read, write and execute that at least one of the base entries grants.
 fn granted(part: &Part) -> Perm
     ensures { result ≡ granted part.now }
 {
     part.owner.union(part.group.union(part.other))
 }
 
-/// What two permissions both grant.
+/// Returns what two permissions both grant.
 fn common(a: Perm, b: Perm) -> Perm
     ensures { result ≡ bit_and a b }
 {

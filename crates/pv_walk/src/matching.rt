@@ -1,4 +1,4 @@
-//! What stands in a tree at the paths that a pattern matches.
+//! Finds the present paths that a pattern matches.
 ghost use Rattle.std.specs.Prelude.{◌≡◌, ◌&&◌, ◌||◌, [], ◌∷◌, ◌++◌, List, ℕ, true, is_some, if◌then◌else◌, filter, map, IfOk, OnOk, IfSome};
 ghost use Rattle.std.specs.List.{list_any};
 ghost use Rattle.std.specs.FinMap as fin;
@@ -16,8 +16,12 @@ use pv_steps::{Tree, is_directory, is_present};
 use std::alloc::{AllocError, Global};
 use std::slice;
 
-/// The paths at which something stands and that a pattern matches (glob(7)), in byte order, each once. It goes down the
-/// tree by the pattern's components: one look for a component of written bytes, the names of a directory for any other.
+/// Returns the present paths that a pattern matches, in byte order, each once (glob(7)).
+///
+/// For example, `/run/*/log` gives the path `log` in each directory in `/run` that has it.
+///
+/// The call goes down the tree component by component. For a component without wildcards it looks up one name, and for
+/// another one it lists the directory. The only error is `AllocError`.
 pub fn matching_paths<T: Tree>(
     alloc: Global,
     tree: &T,
@@ -29,7 +33,7 @@ pub fn matching_paths<T: Tree>(
     Ok(in_order(paths))
 }
 
-/// The present paths that one of some patterns without braces matches, in no order.
+/// Returns the present paths that at least one of some patterns without braces matches, in no order.
 fn all_matching<T: Tree>(
     alloc: Global,
     tree: &T,
@@ -46,7 +50,7 @@ fn all_matching<T: Tree>(
     Ok(paths)
 }
 
-/// The present paths that a pattern without braces matches.
+/// Returns the present paths that a pattern without braces matches.
 fn plain_paths<T: Tree>(alloc: Global, tree: &T, plain: &Plain) -> Result<Vec<TreePath>, AllocError>
     ensures { IfOk result (λ paths. (q : Path) → is_one_of paths.items q
         ≡ (is_some (places (T.state tree.now) q) && matches plain.now q)) }
@@ -63,7 +67,7 @@ fn plain_paths<T: Tree>(alloc: Global, tree: &T, plain: &Plain) -> Result<Vec<Tr
     Ok(paths)
 }
 
-/// The present paths that are one of some paths and one name more, which a component matches.
+/// Returns the present paths that lie directly below one of some paths and have a name that a component matches.
 fn next_paths<T: Tree>(
     alloc: Global,
     tree: &T,
@@ -80,7 +84,7 @@ fn next_paths<T: Tree>(
     }
 }
 
-/// The pattern of one component.
+/// Returns the pattern that has this one component.
 fn alone(alloc: Global, component: &Component) -> Result<Plain, AllocError>
     ensures { IfOk result (λ plain. plain ≡ component.now ∷ []) }
 {
@@ -89,14 +93,14 @@ fn alone(alloc: Global, component: &Component) -> Result<Plain, AllocError>
     Ok(plain)
 }
 
-/// A copy of the component.
+/// Returns a copy of the component.
 fn copied(component: &Component) -> Result<Component, AllocError>
     ensures { IfOk result (λ copy. copy ≡ component.now) }
 {
     component.clone()
 }
 
-/// The bytes of a component of written bytes alone.
+/// Returns the bytes of a component, if it has no wildcards.
 fn written(alloc: Global, component: &Component) -> Result<Option<Vec<u8>>, AllocError>
     ensures { IfOk result (λ found. IfSome found (λ bytes. component.now ≡ map (λ b. Byte b) bytes.items)) }
 {
@@ -110,7 +114,7 @@ fn written(alloc: Global, component: &Component) -> Result<Option<Vec<u8>>, Allo
     Ok(Some(bytes))
 }
 
-/// The one name that a component of written bytes alone matches.
+/// Returns the one name that a component without wildcards matches.
 fn written_name(alloc: Global, component: &Component) -> Result<Option<Name>, AllocError>
     ensures { IfOk result (λ found. IfSome found (λ name. (n : List ℕ) → matches (component.now ∷ []) (n ∷ []) ≡ true → n ≡ name)) }
 {
@@ -120,7 +124,8 @@ fn written_name(alloc: Global, component: &Component) -> Result<Option<Name>, Al
     }
 }
 
-/// The present paths that are one of some paths and a name, the only one that a pattern of one component matches.
+/// Returns the present paths that lie directly below one of some paths and have this name, the only one that the
+/// pattern matches.
 fn next_written<T: Tree>(
     alloc: Global,
     tree: &T,
@@ -142,7 +147,7 @@ fn next_written<T: Tree>(
     Ok(next)
 }
 
-/// Adds a path and one name more, where something stands there.
+/// Appends the path of a name in a directory, if there is an object.
 fn add_present<T: Tree>(
     alloc: Global,
     tree: &T,
@@ -160,7 +165,8 @@ fn add_present<T: Tree>(
     Ok(())
 }
 
-/// The present paths that are one of some paths and one name more, which a pattern of one component matches.
+/// Returns the present paths that lie directly below one of some paths and have a name that a pattern of one
+/// component matches.
 fn next_listed<T: Tree>(
     alloc: Global,
     tree: &T,
@@ -177,7 +183,7 @@ fn next_listed<T: Tree>(
     Ok(next)
 }
 
-/// Adds the paths of what stands in the directory at a path and has a name that a pattern of one component matches.
+/// Appends the paths of what is in a directory and has a name that a pattern of one component matches.
 fn add_listed<T: Tree>(
     alloc: Global,
     tree: &T,
@@ -198,7 +204,7 @@ fn add_listed<T: Tree>(
     Ok(())
 }
 
-/// Adds a path and one name more, where a pattern of one component matches the name.
+/// Appends the path of a name in a directory, if a pattern of one component matches the name.
 fn add_matched(
     alloc: Global,
     path: &TreePath,

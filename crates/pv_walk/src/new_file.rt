@@ -10,20 +10,21 @@ use pv_path::Bytes;
 use pv_steps::{AttrList, Kind, LetterSet, special_bits};
 use std::alloc::{AllocError, Global};
 
-/// A new object with its mode and owners.
+/// A new object of any kind, with its mode and its owners. It has neither named ACL entries, nor extended
+/// attributes, nor file attribute flags.
 #[derive(Drop)]
 pub struct NewFile {
-    /// What it is, with what it holds.
+    /// The kind, with the content, target or device numbers.
     pub what: NewKind,
-    /// At most 07777; not used for a link.
+    /// The mode as the 12 bits of chmod(2), at most 07777. It is not used for a link, whose mode is always 0777.
     pub mode: u16,
-    /// The owner, at most 4294967294.
+    /// The user ID of the owner, at most 4294967294.
     pub uid: u32,
-    /// The owning group, at most 4294967294.
+    /// The ID of the owning group, at most 4294967294.
     pub gid: u32,
 }
 
-/// What a new object is, with what it holds.
+/// The kind of a new object, with its content, target or device numbers.
 #[derive(Clone, Drop)]
 pub enum NewKind {
     /// An empty directory.
@@ -32,21 +33,21 @@ pub enum NewKind {
     File(Bytes),
     /// A symbolic link with this target.
     Link(Bytes),
-    /// A FIFO.
+    /// A named pipe.
     Fifo,
-    /// A block device, or else a character device, with its two numbers.
+    /// A device with its major and minor number: a block device if `block`, otherwise a character device.
     Device { block: bool, major: u32, minor: u32 },
 }
 
 impl NewKind {
-    /// A copy of it.
+    /// Copies the value.
     pub(crate) fn copy(&self) -> Result<NewKind, AllocError>
         ensures { IfOk result (λ what. what ≡ self.now) }
     {
         self.clone()
     }
 
-    /// The kind of the new object.
+    /// Returns the kind of the new object.
     pub fn kind(&self) -> Kind
         ensures { result ≡ new_kind self.now }
     {
@@ -60,7 +61,7 @@ impl NewKind {
         }
     }
 
-    /// The content of a file, the target of a link, otherwise no bytes.
+    /// Returns the bytes of a file or the target of a link; empty for other kinds.
     pub fn payload(&self) -> &[u8]
         ensures { result.now ≡ new_payload self.now }
     {
@@ -71,7 +72,7 @@ impl NewKind {
         }
     }
 
-    /// The numbers of a device, otherwise zeros.
+    /// Returns the major and the minor number of a device; both are 0 for other kinds.
     pub fn numbers(&self) -> (u32, u32)
         ensures major { result.0 ≡ new_major self.now }
         ensures minor { result.1 ≡ new_minor self.now }
@@ -83,7 +84,7 @@ impl NewKind {
     }
 }
 
-/// A new object without its timestamps.
+/// Returns the new object as a tree will have it, without its timestamps. The only error is `AllocError`.
 pub fn new_object_state(alloc: Global, new: &NewFile) -> Result<ObjectState, AllocError>
     ensures { IfOk result (λ object_state. object_state ≡ object_state_of (new_object new.now 0)) }
 {
@@ -99,7 +100,8 @@ pub fn new_object_state(alloc: Global, new: &NewFile) -> Result<ObjectState, All
     })
 }
 
-/// The metadata of a new object: no more than its mode gives, no extended attributes and no letters.
+/// Returns the metadata of a new object: an ACL with only the base entries of its mode, no extended attributes and no
+/// flags.
 pub(crate) fn metadata_of(alloc: Global, new: &NewFile) -> Metadata
     ensures { result ≡ new_metadata new.now }
 {
@@ -114,7 +116,7 @@ pub(crate) fn metadata_of(alloc: Global, new: &NewFile) -> Metadata
     }
 }
 
-/// The mode of a new object: of a link always 0777.
+/// Returns the mode of a new object, which is always 0777 for a link.
 fn mode_of(what: &NewKind, mode: u16) -> u16
     ensures { result ≡ new_mode what.now mode }
 {

@@ -1,5 +1,5 @@
-//! Objects without their timestamps: what they are and hold, and their metadata.
-ghost use Rattle.std.specs.Prelude.{◌≡◌, IfOk};
+//! Objects without their timestamps: kind and content, and metadata.
+ghost use Rattle.std.specs.Prelude.{◌≡◌, [], IfOk};
 ghost use Rattle.pv_walk.specs.Nodes.{object_state_of};
 
 use pv_acl::Acl;
@@ -7,49 +7,48 @@ use pv_path::Bytes;
 use pv_steps::{AttrList, Kind, LetterSet, Node};
 use std::alloc::{AllocError, Global};
 
-/// What an object is and holds: its kind, the bytes of a file or the target of a link, and the numbers of a
-/// device.
+/// The kind of an object and its content, target or device numbers.
 #[derive(Drop)]
 pub struct Body {
     /// The kind of the object.
     pub kind: Kind,
-    /// The bytes of a file or the target of a link, otherwise no bytes.
+    /// The bytes of a file or the target of a link; empty for other kinds.
     pub payload: Bytes,
-    /// A device's major number, otherwise 0.
+    /// The major number of a device; 0 for other kinds.
     pub major: u32,
-    /// A device's minor number, otherwise 0.
+    /// The minor number of a device; 0 for other kinds.
     pub minor: u32,
 }
 
-/// What an object is to have: owner, owning group, special bits, the ACL whose base entries are the rest of the
-/// mode, extended attributes, and letters.
+/// The metadata of an object: owner, owning group, mode, ACL, extended attributes and file attribute flags.
 #[derive(Drop)]
 pub struct Metadata {
-    /// The owner's user ID.
+    /// The user ID of the owner.
     pub uid: u32,
-    /// The owning group's ID.
+    /// The ID of the owning group.
     pub gid: u32,
-    /// Set-user-ID 4, set-group-ID 2, sticky 1.
+    /// The special bits of the mode: 4 for set-user-ID, 2 for set-group-ID and 1 for the sticky bit, added up.
     pub special: u8,
-    /// The access part, and the default part of a directory.
+    /// The ACL: the access part, whose base entries are the rest of the mode, and the default part of a directory
+    /// (acl(5)).
     pub acl: Acl,
     /// The extended attributes (xattr(7)).
     pub attrs: AttrList,
-    /// The letters (chattr(1)).
+    /// The file attribute flags (chattr(1)).
     pub letters: LetterSet,
 }
 
 /// An object without its timestamps.
 #[derive(Drop)]
 pub struct ObjectState {
-    /// What it is and holds.
+    /// The kind, with the content, target or device numbers.
     pub body: Body,
-    /// Its owner, owning group, special bits, ACL, extended attributes and letters.
+    /// Owner, owning group, mode, ACL, extended attributes and file attribute flags.
     pub metadata: Metadata,
 }
 
 impl Body {
-    /// A copy of the body.
+    /// Copies the body. The only error is `AllocError`.
     pub fn copy(&self) -> Result<Body, AllocError>
         ensures { IfOk result (λ body. body ≡ self.now) }
     {
@@ -61,7 +60,22 @@ impl Body {
 }
 
 impl Metadata {
-    /// A copy of the metadata.
+    /// Copies the metadata of a node: all that it has besides kind, device numbers and timestamps (inode(7)). The only
+    /// error is `AllocError`.
+    pub fn of(node: &Node) -> Result<Metadata, AllocError>
+        ensures { IfOk result (λ metadata. metadata ≡ (object_state_of (record { node = node.now; payload = [] })).metadata) }
+    {
+        Ok(Metadata {
+            uid: node.uid,
+            gid: node.gid,
+            special: node.special,
+            acl: node.acl.copy()?,
+            attrs: node.attrs.copy()?,
+            letters: node.letters,
+        })
+    }
+
+    /// Copies the metadata. The only error is `AllocError`.
     pub fn copy(&self) -> Result<Metadata, AllocError>
         ensures { IfOk result (λ metadata. metadata ≡ self.now) }
     {
@@ -74,7 +88,7 @@ impl Metadata {
 }
 
 impl ObjectState {
-    /// An object without its timestamps, from its node and its payload.
+    /// Returns the object that has this node and this payload, without its timestamps. The only error is `AllocError`.
     pub fn of(alloc: Global, node: &Node, payload: &[u8]) -> Result<ObjectState, AllocError>
         ensures { IfOk result (λ object_state. object_state ≡ object_state_of (record { node = node.now; payload = payload.now })) }
     {
@@ -85,18 +99,11 @@ impl ObjectState {
                 major: node.major,
                 minor: node.minor,
             },
-            metadata: Metadata {
-                uid: node.uid,
-                gid: node.gid,
-                special: node.special,
-                acl: node.acl.copy()?,
-                attrs: node.attrs.copy()?,
-                letters: node.letters,
-            },
+            metadata: Metadata::of(node)?,
         })
     }
 
-    /// A copy of the object.
+    /// Copies the object. The only error is `AllocError`.
     pub fn copy(&self) -> Result<ObjectState, AllocError>
         ensures { IfOk result (λ object_state. object_state ≡ self.now) }
     {

@@ -9,7 +9,7 @@ use pv_steps::{AttrList, Kind, LetterHow, LetterSet};
 pub enum Guard {
     /// Any object.
     Every,
-    /// Any object but a link.
+    /// Any object except a symbolic link.
     NoLink,
     /// Objects of one kind.
     Only(Kind),
@@ -18,40 +18,44 @@ pub enum Guard {
 /// A change of a present object.
 #[derive(Drop)]
 pub enum Change {
-    /// The bytes of a file become these.
+    /// Replaces the bytes of a file. It does nothing to other objects.
     Write(Bytes),
-    /// These bytes come after those of a file.
+    /// Appends bytes to a file. It does nothing to other objects.
     Append(Bytes),
-    /// The owner and the owning group, each if it is given.
+    /// Sets the owner and the owning group, each if it is given.
     Owner { uid: Option<u32>, gid: Option<u32> },
-    /// The mode; a masked one loses what the object grants to nobody.
+    /// Sets the mode, the 12 bits of chmod(2). A masked mode (`~`) keeps only what the old base entries grant to
+    /// somebody, and special bits only for a directory.
     Mode { mode: u16, masked: bool },
-    /// Entries of an ACL.
+    /// Changes the ACL by the entries of a line (tmpfiles.d(5), types `a` and `A`).
     Entries { line: AclLine, how: How },
-    /// Extended attributes of an object that is not a link, each in place of one of the same name.
+    /// Sets extended attributes of an object that is not a link. Each replaces one of the same name, and all others
+    /// stay.
     Attrs(AttrList),
-    /// Letters of a file or a directory.
+    /// Changes the file attribute flags of a file or a directory, as the operators of chattr(1) do.
     Letters { how: LetterHow, letters: LetterSet },
 }
 
-/// Which present objects stay where a new one is wanted: those of its kind.
+/// Which present objects stay if a new object is wanted: those of the same kind, with two more rules.
+///
+/// An object that does not stay is replaced.
 #[derive(Clone, Copy, PartialEq, Eq)]
 pub struct Test {
-    /// Links stay only with the new target, devices only with the new numbers.
+    /// If this is set, a link stays only with the new target, and a device only with the new numbers.
     pub exact: bool,
-    /// Directories stay, too.
+    /// If this is set, a directory stays, whatever is wanted.
     pub spares_directories: bool,
 }
 
 /// What a line of configuration asks of the object at one path.
 #[derive(Drop)]
 pub enum Operation {
-    /// An absent object becomes this one; a present one stays.
+    /// Makes this object if nothing is there. A present object stays.
     Make(ObjectState),
-    /// An absent object, or one that fails the test, becomes this one.
+    /// Makes this object if nothing is there, or in place of an object that fails the test.
     Renew { test: Test, new: ObjectState },
-    /// The object goes.
+    /// Removes the object.
     Erase,
-    /// A present object that the change is for is changed.
+    /// Changes a present object that the guard admits.
     Apply { guard: Guard, change: Change },
 }

@@ -6,7 +6,8 @@ ghost use Rattle.pv_walk.specs.Removal.{is_one_of};
 
 use pv_path::TreePath;
 
-/// Puts paths in byte order, each once. Mostly they are so already, which one look at each tells.
+/// Sorts paths in byte order, and keeps each only once. A list that is sorted already costs one comparison for each
+/// path.
 pub fn in_order(paths: Vec<TreePath>) -> Vec<TreePath>
     ensures rises { IsStrictlySortedBy path_cmp result.items }
     ensures members { (q : Path) → is_one_of result.items q ≡ is_one_of paths.items q }
@@ -20,7 +21,7 @@ pub fn in_order(paths: Vec<TreePath>) -> Vec<TreePath>
     ordered
 }
 
-/// Whether each path stands before the next one.
+/// Returns whether each path comes before the next one.
 fn rise(paths: &[TreePath]) -> bool
     ensures { IsTrue result → IsStrictlySortedBy path_cmp paths.now }
 {

@@ -1,8 +1,8 @@
-//! What goes before the last name of a path: staging names swept, absent parents put.
-ghost use Rattle.std.specs.Prelude.{◌≡◌, ◌≢◌, ◌≤◌, ◌+◌, ◌*◌, [], true, false, is_some, OnOk, if◌then◌else◌};
+//! Prepares a path for a new object: removes what is staged along it, and makes absent parents.
+ghost use Rattle.std.specs.Prelude.{◌≡◌, ◌≢◌, ◌≤◌, ◌+◌, ◌*◌, [], true, false, is_some, IfOk, OnOk, if◌then◌else◌};
 ghost use Rattle.pv_path.specs.Paths.{parent_of, has_staging, staging_of};
 ghost use Rattle.pv_steps.specs.declared.node.Kind.TheVariants.{Directory};
-ghost use Rattle.pv_steps.specs.Trees.{places, IsKind, IsAbsentIn};
+ghost use Rattle.pv_steps.specs.Trees.{places, IsKind, IsAbsentIn, IsTree};
 ghost use Rattle.pv_steps.specs.Acting.{Acted};
 ghost use Rattle.pv_walk.specs.Staging.{staging_names, count_at_all, can_stage, most_new};
 ghost use Rattle.pv_walk.specs.Putting.{Putting, IsPutStep};
@@ -12,12 +12,20 @@ use crate::new_file::{NewFile, NewKind};
 use crate::put::put_over;
 use crate::sweeping::sweep;
 use crate::walking::go_down;
-use pv_path::TreePath;
+use pv_path::{TreePath, parent};
 use pv_steps::{Tree, TreeFault, is_present};
-use std::alloc::Global;
+use std::alloc::{AllocError, Global};
 
-/// Prepares a path for a new object: removes what an earlier run has staged along the path, and makes a directory 0755
-/// of root at each absent ancestor. Each name of the path has at most 250 bytes.
+/// Prepares a path for a new object: removes what an earlier run has staged along the path, and makes each absent
+/// parent.
+///
+/// A new parent is a directory with mode 0755 that belongs to root. `now` is in microseconds since 1970-01-01 UTC. Each
+/// name of the path must have at most 250 bytes, and none may be a staging name. Everything that is present above the
+/// path must be a directory.
+///
+/// Afterwards what is at the path is as before. If the path is not the root, its parent is a directory, and nothing
+/// is at its staging name. The errors are those of a step: `Failed` or `Memory`. After an error some of the steps
+/// may be done.
 pub fn prepare<T: Tree>(
     alloc: Global,
     tree: &mut T,
@@ -29,7 +37,7 @@ pub fn prepare<T: Tree>(
     requires pass { CanPass path.now (T.state tree.old) }
     ensures ok { OnOk result (places (T.state tree.new)
         ≡ prepared now path.now (places (T.state tree.old))) }
-    // What the path itself needs then.
+    // What a new object at the path needs.
     ensures here { OnOk result (places (T.state tree.new) path.now
         ≡ places (T.state tree.old) path.now) }
     ensures parent { OnOk result (path.now ≢ []
@@ -44,7 +52,8 @@ pub fn prepare<T: Tree>(
     put_parents(alloc, tree, path, now)
 }
 
-/// Puts a directory at each absent place above a path but the root, from the root on.
+/// Makes a directory at each absent component above a path, from the root on. If the parent is present, none is absent,
+/// and nothing is done.
 fn put_parents<T: Tree>(
     alloc: Global,
     tree: &mut T,
@@ -64,6 +73,9 @@ fn put_parents<T: Tree>(
     ensures acted { Acted T.Tree (Preparing path.now (T.state tree.old)) (IsPrepareStep path.now (T.state tree.old))
         (most_new * parent_count path.now (T.state tree.old)) now tree.old tree.new result }
 {
+    if has_parent(alloc, tree, path)? {
+        return Ok(());
+    }
     let mut place = TreePath::root(alloc);
     let names = path.names();
     for name in &names[..names.len().saturating_sub(1)] {
@@ -73,7 +85,18 @@ fn put_parents<T: Tree>(
     Ok(())
 }
 
-/// Puts a directory that root owns at a place where nothing stands.
+/// Returns whether the parent of a path is present. The root counts as its own parent.
+fn has_parent<T: Tree>(alloc: Global, tree: &T, path: &TreePath) -> Result<bool, AllocError>
+    ensures present { IfOk result (λ has. has ≡ is_some (places (T.state tree.now) (parent_of path.now))) }
+    ensures tree { IsTree (T.state tree.now) }
+{
+    match parent(alloc, path)? {
+        Some(parent) => Ok(is_present(tree, &parent)),
+        None => Ok(is_present(tree, path)),
+    }
+}
+
+/// Makes a directory that belongs to root at a component, if nothing is there.
 fn put_parent<T: Tree>(
     alloc: Global,
     tree: &mut T,
@@ -98,7 +121,7 @@ fn put_parent<T: Tree>(
     put_over(alloc, tree, place, &parent_file(), now)
 }
 
-/// What an absent parent becomes.
+/// Returns the directory that an absent parent becomes.
 fn parent_file() -> NewFile
     ensures { result ≡ parent_file }
 {

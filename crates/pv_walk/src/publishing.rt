@@ -1,4 +1,4 @@
-//! Staged objects are renamed into place.
+//! Renames staged objects into place.
 ghost use Rattle.std.specs.Prelude.{◌≡◌, ◌≢◌, ◌+◌, [], true, OnOk};
 ghost use Rattle.pv_path.specs.Paths.{is_prefix, staging_of};
 ghost use Rattle.pv_steps.specs.Trees.{places, IsPresent, IsTree};
@@ -15,8 +15,10 @@ use pv_path::{TreePath, staging};
 use pv_steps::{Step, Tree, TreeFault, is_directory, is_present, try_step};
 use std::alloc::Global;
 
-/// Removes what a Rename from the staging name cannot replace at a path. This is all below a directory, and the object
-/// itself unless both are directories or neither is.
+/// Removes what a Rename from the staging name cannot replace at a path.
+///
+/// If a directory replaces a directory, this is everything in the old one. If neither is a directory, it is
+/// nothing. Otherwise it is the old object with everything below it.
 fn make_way<T: Tree>(
     alloc: Global,
     tree: &mut T,
@@ -47,7 +49,7 @@ fn make_way<T: Tree>(
     }
 }
 
-/// Brings what is staged to its path.
+/// Renames what is staged to its path.
 fn rename<T: Tree>(tree: &mut T, stage: TreePath, path: TreePath, now: u64) -> Result<(), TreeFault>
     requires stage { stage ≡ staging_of path }
     requires not_root { path ≢ [] }
@@ -64,8 +66,14 @@ fn rename<T: Tree>(tree: &mut T, stage: TreePath, path: TreePath, now: u64) -> R
     try_step(tree, step, now)
 }
 
-/// Renames the object at the staging name of a path to the path, in one step, with all below it. The old object is
-/// removed before, as far as that step cannot replace it. Each name of the path has at most 250 bytes.
+/// Renames the object at the staging name of a path into place, in one step with everything below it (rename(2)).
+///
+/// For example, `/run/.#tf-app` becomes `/run/app`. Before that, the call removes from the old object only what this
+/// rename cannot replace. `now` is in microseconds since 1970-01-01 UTC. The path must not be the root, its names must
+/// have at most 250 bytes, and there must be an object at its staging name.
+///
+/// The errors are those of a step: `Failed` or `Memory`. After an error some of the steps may be done, so the old
+/// object may be removed in part.
 pub fn publish<T: Tree>(
     alloc: Global,
     tree: &mut T,

@@ -1,4 +1,4 @@
-//! New objects, put at paths.
+//! Puts new objects at paths.
 ghost use Rattle.std.specs.Prelude.{◌≡◌, ◌≢◌, ◌+◌, [], ◌∷◌, true, false, IfOk, OnOk};
 ghost use Rattle.pv_path.specs.Paths.{parent_of, has_staging, staging_of};
 ghost use Rattle.pv_steps.specs.declared.node.Kind.TheVariants.{Directory};
@@ -20,9 +20,17 @@ use pv_path::TreePath;
 use pv_steps::{Tree, TreeFault};
 use std::alloc::{AllocError, Global};
 
-/// Puts a new object at a path in a directory, in place of the old object and all below it. It is made under its
-/// staging name, and gets all that it is to have there. It is renamed into place in one step, once the old object is
-/// out of the way.
+/// Puts a new object at a path in a directory, in place of the old object with everything below it.
+///
+/// The new object is complete under its staging name before anything of the old object is removed. Then it is
+/// renamed into place in one step. Its four timestamps are `now`, in microseconds since 1970-01-01 UTC.
+///
+/// The path must not be the root. Its names must have at most 250 bytes (the staging prefix has five), and none may be
+/// a staging name. Its parent must be a directory, nothing may be at its staging name, and the parts of the new object
+/// must be in range (definition `IsNewFile`).
+///
+/// The errors are those of a step: `Failed` or `Memory`. After an error some of the steps may be done. At each
+/// moment the old object is as it was, or the new one is complete at its staging name or at the path.
 pub fn put_over<T: Tree>(
     alloc: Global,
     tree: &mut T,
@@ -41,7 +49,7 @@ pub fn put_over<T: Tree>(
     ensures acted { Acted T.Tree (Replacing path.now (new_subtree new.now) (T.state tree.old))
         (IsPutStep path.now new.now) (count_at (T.state tree.old) path.now + most_new)
         now tree.old tree.new result }
-    // Under the staging name nothing stands but stages of the new object.
+    // Under the staging name there are only stages of the new object.
     ensures stages { Acted T.Tree (InStages (staging_of path.now) (new_subtree new.now))
         (IsPutStep path.now new.now) (count_at (T.state tree.old) path.now + most_new)
         now tree.old tree.new result }
@@ -50,8 +58,13 @@ pub fn put_over<T: Tree>(
     put_subtree(alloc, tree, path, pieces, now)
 }
 
-/// Makes a new object under the staging name of a path, with its content, owners and mode in this order, all four
-/// timestamps now. After a fault some of these steps may be done; nothing but the staging name has changed.
+/// Makes a new object under the staging name of a path, and gives it its content, its owners and its mode.
+///
+/// Its four timestamps are `now`, in microseconds since 1970-01-01 UTC. The conditions are those of `put_over`,
+/// except that names of the path may be staging names.
+///
+/// The errors are those of a step: `Failed` or `Memory`. After an error some of the steps may be done, but only the
+/// staging name has changed, timestamps left out.
 pub fn stage_file<T: Tree>(
     alloc: Global,
     tree: &mut T,
@@ -73,7 +86,7 @@ pub fn stage_file<T: Tree>(
     stage_subtree(alloc, tree, path, pieces, now)
 }
 
-/// The pieces of work of one new object, the last one first.
+/// Returns the pieces of work of one new object, the last one first.
 fn pieces_of_new(alloc: Global, new: &NewFile) -> Result<Vec<Piece>, AllocError>
     ensures { IfOk result (λ pieces. pieces.items
         ≡ Give [] (new_metadata new.now) ∷ Make [] new.now.what ∷ []) }

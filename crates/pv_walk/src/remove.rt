@@ -1,4 +1,4 @@
-//! Removal of what stands below a path.
+//! Removes what is below a path.
 ghost use Rattle.std.specs.Prelude.{◌≡◌, ◌≢◌, [], ◌++◌, length, map, reverse, IfOk, OnOk};
 ghost use Rattle.pv_path.specs.Paths.{same_path};
 ghost use Rattle.pv_steps.specs.Trees.{places, IsPresent, IsEmptyIn, IsTree};
@@ -14,8 +14,8 @@ use pv_path::{TreePath, child};
 use pv_steps::{Step, Tree, TreeFault, is_directory, try_all, try_step};
 use std::alloc::{AllocError, Global};
 
-/// Adds the paths of what stands in the directory at a path, in byte order; nothing if no
-/// directory is there.
+/// Appends the paths of what is in the directory at a path, in byte order. It appends nothing if there is no
+/// directory.
 fn push_children<T: Tree>(
     alloc: Global,
     tree: &T,
@@ -36,8 +36,10 @@ fn push_children<T: Tree>(
     Ok(())
 }
 
-/// All that stands below a path: each path once, and each directory before what is in it. From its
-/// end on the list has the children of a directory in byte order, each with all below it first.
+/// Returns the paths of everything below a path, each once, and each directory before what is in it.
+///
+/// Everything below a listed directory follows it directly. The path itself is not in the list. The only error is
+/// `AllocError`.
 pub fn below<T: Tree>(alloc: Global, tree: &T, path: &TreePath) -> Result<Vec<TreePath>, AllocError>
     ensures all { IfOk result (λ paths. IsListing (T.state tree.now) path.now paths.items) }
     ensures gathered { IfOk result (λ paths. AreGathered paths.items) }
@@ -53,7 +55,7 @@ pub fn below<T: Tree>(alloc: Global, tree: &T, path: &TreePath) -> Result<Vec<Tr
     Ok(listed)
 }
 
-/// Removes the object at a path, which has nothing below it.
+/// Removes the object at a path, below which there is nothing.
 pub(crate) fn remove<T: Tree>(tree: &mut T, path: TreePath, now: u64) -> Result<(), TreeFault>
     requires present { IsPresent (T.state tree.old) path }
     requires empty { IsEmptyIn (places (T.state tree.old)) path }
@@ -67,7 +69,10 @@ pub(crate) fn remove<T: Tree>(tree: &mut T, path: TreePath, now: u64) -> Result<
     try_step(tree, step, now)
 }
 
-/// The step that removes the object at a path, which has nothing below it (unlink(2), rmdir(2)). It takes no memory.
+/// Returns the step that removes the object at a path: `RemoveDir` for a directory, otherwise `Unlink`. The call does
+/// not allocate.
+///
+/// The step is possible only if there is an object that has nothing below it (unlink(2), rmdir(2)).
 pub fn removal<T: Tree>(tree: &T, path: TreePath) -> Step
     ensures { result ≡ removal_at (T.state tree.now) path }
 {
@@ -78,7 +83,7 @@ pub fn removal<T: Tree>(tree: &T, path: TreePath) -> Step
     }
 }
 
-/// The steps that remove the objects at some paths, in the order of the paths.
+/// Returns the steps that remove the objects at some paths, in the order of the paths.
 fn removals<T: Tree>(alloc: Global, tree: &T, paths: Vec<TreePath>) -> Result<Vec<Step>, AllocError>
     ensures { IfOk result (λ steps. steps.items ≡ map (removal_at (T.state tree.now)) paths.items) }
 {
@@ -89,7 +94,14 @@ fn removals<T: Tree>(alloc: Global, tree: &T, paths: Vec<TreePath>) -> Result<Ve
     Ok(steps)
 }
 
-/// Removes the objects at some paths, from the last one on. A directory that stays and lost a child has changed.
+/// Removes the objects at some paths, the last path of the list first.
+///
+/// Each path must be present, must not be the root, and must be in the list once. Everything in a listed directory
+/// must come after it in the list. A directory that stays and loses a child gets new timestamps: `now`, in
+/// microseconds since 1970-01-01 UTC.
+///
+/// The errors are those of a step: `Failed` or `Memory`. After an error, some paths from the end of the list are
+/// removed.
 pub fn remove_all<T: Tree>(
     alloc: Global,
     tree: &mut T,
@@ -108,8 +120,10 @@ pub fn remove_all<T: Tree>(
     try_all(tree, steps, now)
 }
 
-/// Takes away all that stands below a path: children in byte order, each directory after its
-/// children. What is absent or no directory has nothing below it.
+/// Removes everything below a path, each directory after what is in it.
+///
+/// The call does nothing if the path is absent or is not a directory. `now` is in microseconds since 1970-01-01 UTC.
+/// The errors are those of a step: `Failed` or `Memory`. After an error some of the objects may be removed.
 pub fn remove_below<T: Tree>(
     alloc: Global,
     tree: &mut T,

@@ -1,4 +1,4 @@
-//! Operations done on one object.
+//! Does operations on one object.
 ghost use Rattle.std.specs.Prelude.{◌≡◌, ◌++◌, IfOk, OnOk};
 ghost use Rattle.pv_walk.specs.Nodes.{carries_letters, is_file, is_link, same_kind, same_substance};
 ghost use Rattle.pv_walk.specs.Operations.{admits, stays, changed, done, run};
@@ -13,7 +13,9 @@ use pv_path::Bytes;
 use pv_steps::{AttrList, Kind, LetterHow, LetterSet, special_bits};
 use std::alloc::{AllocError, Global};
 
-/// What operations, in order, make of an object that may be absent.
+/// Returns the object that results when operations are done in order on an object that may be absent.
+///
+/// `None` means that the object is absent, before the operations or after them. The only error is `AllocError`.
 pub fn run_operations(
     alloc: Global,
     operations: &[Operation],
@@ -28,7 +30,7 @@ pub fn run_operations(
     Ok(object_state)
 }
 
-/// What one operation makes of an object that may be absent.
+/// Returns what one operation makes of an object that may be absent.
 fn done(
     alloc: Global,
     operation: &Operation,
@@ -44,7 +46,7 @@ fn done(
     }
 }
 
-/// The object that is there, otherwise the new one.
+/// Returns the object that is there, or the new one if there is none.
 fn made(new: &ObjectState, old: Option<ObjectState>) -> Result<Option<ObjectState>, AllocError>
     ensures { IfOk result (λ object_state. object_state ≡ done (Make new.now) old) }
 {
@@ -54,7 +56,7 @@ fn made(new: &ObjectState, old: Option<ObjectState>) -> Result<Option<ObjectStat
     }
 }
 
-/// The object that is there where it stays, otherwise the new one.
+/// Returns the object that is there if it stays, otherwise the new one.
 fn renewed(
     test: Test,
     new: &ObjectState,
@@ -68,7 +70,7 @@ fn renewed(
     )
 }
 
-/// An object that may be absent, after a change, where that is for it.
+/// Returns an object that may be absent after a change, if the change is for it.
 fn adjusted(
     alloc: Global,
     guard: Guard,
@@ -87,7 +89,7 @@ fn adjusted(
     }
 }
 
-/// An object after a change.
+/// Returns an object after a change.
 fn changed(alloc: Global, change: &Change, old: ObjectState) -> Result<ObjectState, AllocError>
     ensures { IfOk result (λ new. new ≡ changed old.body.kind change.now old) }
 {
@@ -96,8 +98,8 @@ fn changed(alloc: Global, change: &Change, old: ObjectState) -> Result<ObjectSta
     Ok(object_state)
 }
 
-/// Changes an object: bytes are a file's alone, a default part is a directory's, a link has no extended attributes, and
-/// files and directories alone have letters.
+/// Changes an object. Only a file has bytes, only a directory has a default ACL, a link has no extended attributes,
+/// and only files and directories have flags.
 fn change_object(
     alloc: Global,
     change: &Change,
@@ -117,7 +119,7 @@ fn change_object(
     Ok(())
 }
 
-/// Gives a file other bytes.
+/// Replaces the bytes of a file.
 fn write(object_state: &mut ObjectState, bytes: &Bytes) -> Result<(), AllocError>
     ensures { OnOk result (object_state.new ≡ changed object_state.old.body.kind (Write bytes.now) object_state.old) }
 {
@@ -127,7 +129,7 @@ fn write(object_state: &mut ObjectState, bytes: &Bytes) -> Result<(), AllocError
     Ok(())
 }
 
-/// Adds bytes after those of a file.
+/// Appends bytes to a file.
 fn append(object_state: &mut ObjectState, bytes: &Bytes) -> Result<(), AllocError>
     ensures { OnOk result (object_state.new ≡ changed object_state.old.body.kind (Append bytes.now) object_state.old) }
 {
@@ -137,7 +139,7 @@ fn append(object_state: &mut ObjectState, bytes: &Bytes) -> Result<(), AllocErro
     Ok(())
 }
 
-/// Gives an object an owner and an owning group, each if it is given.
+/// Sets the owner and the owning group, each if it is given.
 fn set_owner(object_state: &mut ObjectState, uid: Option<u32>, gid: Option<u32>)
     ensures { object_state.new ≡ changed object_state.old.body.kind (Owner uid gid) object_state.old }
 {
@@ -145,7 +147,7 @@ fn set_owner(object_state: &mut ObjectState, uid: Option<u32>, gid: Option<u32>)
     object_state.metadata.gid = gid.unwrap_or(object_state.metadata.gid);
 }
 
-/// Applies the entries of an ACL to that of an object.
+/// Applies the entries of a line to the ACL of an object.
 fn apply_line(
     alloc: Global,
     object_state: &mut ObjectState,
@@ -165,7 +167,7 @@ fn apply_line(
     Ok(())
 }
 
-/// Puts extended attributes into those of an object that is not a link, each in place of one of the same name.
+/// Sets extended attributes of an object that is not a link. Each replaces one of the same name.
 fn put_attrs(object_state: &mut ObjectState, attrs: &AttrList) -> Result<(), AllocError>
     ensures { OnOk result (object_state.new ≡ changed object_state.old.body.kind (Attrs attrs.now) object_state.old) }
 {
@@ -175,7 +177,7 @@ fn put_attrs(object_state: &mut ObjectState, attrs: &AttrList) -> Result<(), All
     Ok(())
 }
 
-/// Gives an object a mode, masked or not.
+/// Sets the mode of an object, masked or not.
 fn set_mode(object_state: &mut ObjectState, mode: u16, masked: bool)
     ensures { object_state.new ≡ changed object_state.old.body.kind (Mode mode masked) object_state.old }
 {
@@ -188,7 +190,7 @@ fn set_mode(object_state: &mut ObjectState, mode: u16, masked: bool)
     }
 }
 
-/// Adds letters to those of a file or a directory, takes them from these, or puts them in their place.
+/// Changes the flags of a file or a directory.
 fn change_letters(object_state: &mut ObjectState, how: LetterHow, letters: LetterSet)
     ensures { object_state.new ≡ changed object_state.old.body.kind (Letters how letters) object_state.old }
 {
@@ -197,7 +199,7 @@ fn change_letters(object_state: &mut ObjectState, how: LetterHow, letters: Lette
     }
 }
 
-/// The bytes of one list and after them those of another.
+/// Returns the bytes of one list followed by those of another.
 fn joined(first: &Bytes, second: &Bytes) -> Result<Bytes, AllocError>
     ensures { IfOk result (λ all. all ≡ first.now ++ second.now) }
 {
@@ -206,7 +208,7 @@ fn joined(first: &Bytes, second: &Bytes) -> Result<Bytes, AllocError>
     Ok(Bytes::from_vec(items))
 }
 
-/// Whether a change is for objects of a kind.
+/// Returns whether a change with this guard is for objects of a kind.
 pub fn admits(guard: Guard, kind: Kind) -> bool
     ensures { result ≡ admits guard kind }
 {
@@ -217,7 +219,7 @@ pub fn admits(guard: Guard, kind: Kind) -> bool
     }
 }
 
-/// Whether an object stays where a new one is wanted.
+/// Returns whether an object passes the test, and so stays in place of a new one that is wanted.
 pub fn stays(test: Test, new: &Body, old: &Body) -> bool
     ensures { result ≡ stays test new.now old.now }
 {
@@ -225,7 +227,7 @@ pub fn stays(test: Test, new: &Body, old: &Body) -> bool
         || test.spares_directories && old.kind.is_directory()
 }
 
-/// Whether the target of a link and the numbers of a device are those that are wanted.
+/// Returns whether the target of a link and the numbers of a device are those that are wanted.
 fn same_substance(wanted: &Body, body: &Body) -> bool
     ensures { result ≡ same_substance wanted.now body.now }
 {
@@ -240,7 +242,7 @@ fn same_kind(a: Kind, b: Kind) -> bool
     a == b
 }
 
-/// Whether objects of a kind have letters.
+/// Returns whether objects of a kind have file attribute flags.
 fn carries_letters(kind: Kind) -> bool
     ensures { result ≡ carries_letters kind }
 {

@@ -1,4 +1,4 @@
-//! Setting the metadata of the object at a path of a tree.
+//! Sets the metadata of the object at a path.
 ghost use Rattle.std.specs.Prelude.{◌≡◌, ◌↔◌, ◌≤◌, IsTrue, OnOk};
 ghost use Rattle.pv_steps.specs.declared.step.Step.TheVariants.{SetOwner, SetMode};
 ghost use Rattle.pv_steps.specs.Acting.{asked, Acted};
@@ -11,9 +11,16 @@ use pv_acl::Part;
 use pv_path::TreePath;
 use pv_steps::{Node, Step, Tree, TreeFault, node_of, try_step};
 
-/// Sets the metadata of the object at a path (chown(2), chmod(2), setfacl(1), setxattr(2), chattr(1)). Owner, mode,
-/// ACL, extended attributes and file attribute flags are set in this order, each only if that changes something.
-/// Nothing is asked of the tree if the object has all of it. A link, which has always mode 0777, gets owners alone.
+/// Sets the metadata of the object at a path: owner, mode, ACL, extended attributes and file attribute flags, in
+/// this order.
+///
+/// A part is set only if this changes something, so no step is done if the object already has all of it. At most
+/// five steps are done (chown(2), chmod(2), setfacl(1), setxattr(2), chattr(1)). `now` is in microseconds since
+/// 1970-01-01 UTC.
+///
+/// There must be an object at the path, and the metadata must be possible for its kind: a link has mode 0777, no
+/// extended attributes and no flags. The errors are those of a step: `Failed` or `Memory`. After an error some of the
+/// parts may be set, from the first one on.
 pub fn set_metadata<T: Tree>(
     tree: &mut T,
     path: &TreePath,
@@ -26,12 +33,12 @@ pub fn set_metadata<T: Tree>(
     ensures ok { OnOk result
         (ChangedAt (with_metadata new.now) path.now now (T.state tree.old) (T.state tree.new)) }
 
-    // Owner, mode and ACL are three of them.
+    // Owner, mode and ACL are three of the five parts.
     ensures few { IsKeptBy (with_attrs_of new.now) path.now (T.state tree.old)
         → IsKeptBy (with_letters_of new.now) path.now (T.state tree.old)
         → asked result (T.steps tree.old) (T.steps tree.new) ≤ 3 }
 
-    // Extended attributes and letters are two of them.
+    // Extended attributes and flags are two of the five parts.
     ensures two { IsKeptBy (with_access_of new.now) path.now (T.state tree.old)
         → asked result (T.steps tree.old) (T.steps tree.new) ≤ 2 }
 
@@ -43,7 +50,7 @@ pub fn set_metadata<T: Tree>(
     give_letters(tree, path, new, now)
 }
 
-/// Gives the object at a path the owner, the mode and the ACL of metadata, each where it has another.
+/// Sets the owner, the mode and the ACL, each if the object has another one.
 fn give_access<T: Tree>(
     tree: &mut T,
     path: &TreePath,
@@ -63,7 +70,7 @@ fn give_access<T: Tree>(
     give_acl(tree, path, new, now)
 }
 
-/// Gives the object at a path the owners of metadata, where it has others.
+/// Sets the owner and the owning group, if the object has others.
 fn give_owner<T: Tree>(
     tree: &mut T,
     path: &TreePath,
@@ -89,7 +96,7 @@ fn give_owner<T: Tree>(
     try_step(tree, step, now)
 }
 
-/// Gives the object at a path the mode of metadata, where it has another.
+/// Sets the mode, if the object has another one.
 fn give_mode<T: Tree>(
     tree: &mut T,
     path: &TreePath,
@@ -114,7 +121,7 @@ fn give_mode<T: Tree>(
     try_step(tree, step, now)
 }
 
-/// Gives the object at a path the ACL of metadata, where it has another.
+/// Sets the ACL, if the object has another one.
 fn give_acl<T: Tree>(
     tree: &mut T,
     path: &TreePath,
@@ -139,7 +146,7 @@ fn give_acl<T: Tree>(
     try_step(tree, step, now)
 }
 
-/// Gives the object at a path the extended attributes of metadata, where it has others.
+/// Sets the extended attributes, if the object has others.
 fn give_attrs<T: Tree>(
     tree: &mut T,
     path: &TreePath,
@@ -164,7 +171,7 @@ fn give_attrs<T: Tree>(
     try_step(tree, step, now)
 }
 
-/// Gives the object at a path the letters of metadata, where it has others.
+/// Sets the flags, if the object has others.
 fn give_letters<T: Tree>(
     tree: &mut T,
     path: &TreePath,
@@ -201,7 +208,8 @@ fn has_mode(node: &Node, new: &Metadata) -> bool
     node.special == new.special && is_same_base(&node.acl.access, &new.acl.access)
 }
 
-/// Whether the base entries of two parts are the same.
+/// Returns whether two ACL parts have the same base entries: those of the owner, the owning group and all others
+/// (acl(5)).
 pub fn is_same_base(a: &Part, b: &Part) -> bool
     ensures { IsTrue result ↔ SameBase a.now b.now }
 {

@@ -1,4 +1,4 @@
-//! New objects, made at paths.
+//! Makes new objects at paths.
 ghost use Rattle.std.specs.Prelude.{◌≡◌, ◌≢◌, [], IfOk, OnOk};
 ghost use Rattle.pv_path.specs.Paths.{is_prefix};
 ghost use Rattle.pv_steps.specs.declared.step.Step.TheVariants.{Write};
@@ -14,8 +14,13 @@ use pv_path::{Bytes, TreePath};
 use pv_steps::{Step, Tree, TreeFault, try_step};
 use std::alloc::AllocError;
 
-/// Makes a new object at an absent path whose parent is a directory. It is made with its content, mode and owners.
-/// After a fault it may be there without its content.
+/// Makes a new object at an absent path in a directory, and writes its content, without staging.
+///
+/// The owners and the mode that `new` names are not set. The object belongs to root, and its mode is 0700 for a
+/// directory, 0777 for a link and 0600 for any other kind. `now` is in microseconds since 1970-01-01 UTC.
+///
+/// The path must not be the root, and the parts of the new object must be in range (definition `IsNewFile`). The errors
+/// are those of a step: `Failed` or `Memory`. After an error the object may be there without its content.
 pub fn put_held<T: Tree>(
     tree: &mut T,
     path: &TreePath,
@@ -57,7 +62,7 @@ pub(crate) fn begin<T: Tree>(
     }
 }
 
-/// The one step that makes an object of a kind.
+/// Returns the one step that makes an object of a kind.
 fn make_step(path: &TreePath, what: &NewKind) -> Result<Step, AllocError>
     ensures { IfOk result (λ step. step ≡ make_step path.now what.now) }
 {
@@ -83,7 +88,7 @@ fn make_step(path: &TreePath, what: &NewKind) -> Result<Step, AllocError>
     }
 }
 
-/// The step that writes the content of a file.
+/// Returns the step that writes the content of a file.
 fn write_step(path: &TreePath, content: Bytes) -> Result<Step, AllocError>
     ensures { IfOk result (λ step. step ≡ Write path.now content) }
 {
@@ -93,7 +98,7 @@ fn write_step(path: &TreePath, content: Bytes) -> Result<Step, AllocError>
     })
 }
 
-/// The content that a new file is to have, if it is to have any.
+/// Returns the content that a new file is to have, or `None` if it is to be empty or is not a file.
 fn content_of(what: NewKind) -> Option<Bytes>
     ensures { result ≡ content_of what }
 {

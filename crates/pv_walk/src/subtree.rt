@@ -19,9 +19,11 @@ use pv_path::{TreePath, staging};
 use pv_steps::{Tree, TreeFault};
 use std::alloc::Global;
 
-/// Puts what pieces of work make at a path in a directory, in place of the old object and all below it. It is made
-/// under the staging name. It is renamed into place in one step with all below it, once the old object is out of the
-/// way.
+/// Puts the subtree that pieces of work make at a path in a directory, in place of the old object with everything
+/// below it.
+///
+/// The subtree is complete under the staging name before anything of the old object is removed. Then it is renamed
+/// into place in one step.
 pub(crate) fn put_subtree<T: Tree>(
     alloc: Global,
     tree: &mut T,
@@ -40,7 +42,7 @@ pub(crate) fn put_subtree<T: Tree>(
     ensures acted { Acted T.Tree (Replacing path.now (made_of pieces.items) (T.state tree.old))
         (IsCopyStep path.now (made_of pieces.items))
         (cost_of pieces.items + (1 + count_at (T.state tree.old) path.now)) now tree.old tree.new result }
-    // Under the staging name nothing stands but stages of it.
+    // Under the staging name there are only stages of the subtree.
     ensures stages { Acted T.Tree (InStages (staging_of path.now) (made_of pieces.items))
         (IsCopyStep path.now (made_of pieces.items))
         (cost_of pieces.items + (1 + count_at (T.state tree.old) path.now)) now tree.old tree.new result }
@@ -49,8 +51,9 @@ pub(crate) fn put_subtree<T: Tree>(
     publish(alloc, tree, path, now)
 }
 
-/// Makes it under the staging name, from the last piece of the list on. After a fault some of the steps may be done; nothing but the staging name and what is
-/// below it has changed.
+/// Makes a subtree under the staging name of a path, from the last piece of the list on.
+///
+/// After an error some of the steps may be done, but only the staging name and what is below it has changed.
 pub(crate) fn stage_subtree<T: Tree>(
     alloc: Global,
     tree: &mut T,

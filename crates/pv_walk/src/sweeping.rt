@@ -1,4 +1,4 @@
-//! Staging names that an earlier run has left, taken away.
+//! Removes what an earlier run has left at staging names.
 ghost use Rattle.std.specs.Prelude.{◌≡◌, ◌≢◌, ◌≤◌, ℕ, List, [], true, length, Some, OnOk};
 ghost use Rattle.pv_path.specs.Paths.{is_prefix, last_name, staging_of};
 ghost use Rattle.pv_steps.specs.Trees.{places};
@@ -13,7 +13,7 @@ use pv_path::{TreePath, staging};
 use pv_steps::{Tree, TreeFault, is_present};
 use std::alloc::Global;
 
-/// Removes the object at a path, with all below it, if it is present.
+/// Removes the object at a path, with everything below it, if it is present.
 pub(crate) fn take_away<T: Tree>(
     alloc: Global,
     tree: &mut T,
@@ -34,7 +34,7 @@ pub(crate) fn take_away<T: Tree>(
     remove(tree, path.copy()?, now)
 }
 
-/// Takes away the staging name of one place, with all below it.
+/// Removes the object at the staging name of one path, with everything below it.
 fn sweep_place<T: Tree>(
     alloc: Global,
     tree: &mut T,
@@ -53,8 +53,13 @@ fn sweep_place<T: Tree>(
     take_away(alloc, tree, &stage, now)
 }
 
-/// Removes what an earlier run has left along a path. For each path from the root's child to the path itself, it
-/// removes the object at its staging name, with all below it. Each name of the path has at most 250 bytes.
+/// Removes what an earlier run has staged along a path: the objects at the staging names of the path and of each
+/// path above it.
+///
+/// Each is removed with everything below it. For example, for `/run/app` these are `/.#tf-run` and `/run/.#tf-app`.
+/// Each name of the path must have at most 250 bytes. `now` is in microseconds since 1970-01-01 UTC.
+///
+/// The errors are those of a step: `Failed` or `Memory`. After an error some of the objects may be removed.
 pub fn sweep<T: Tree>(
     alloc: Global,
     tree: &mut T,

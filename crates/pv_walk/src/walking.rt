@@ -1,4 +1,7 @@
 //! Walks along a path from the root.
+//!
+//! A component is given by the number of names that lead to it: 0 is the root, and 2 is the component `/run/app` of
+//! `/run/app/x`.
 ghost use Rattle.std.specs.Prelude.{◌≡◌, ◌<◌, ◌≤◌, ◌^◌, [], ◌∷◌, ◌++◌, length, IfOk, OnOk};
 ghost use Rattle.std.specs.Option.{option_or};
 ghost use Rattle.pv_steps.specs.Trees.{places, IsTree};
@@ -10,14 +13,14 @@ use pv_path::{Name, TreePath};
 use pv_steps::{Kind, Tree, Why};
 use std::alloc::{AllocError, Global};
 
-/// What a walk along a path found. A place is counted by the names that lead to it.
+/// What a walk along a path found. A component is given by the number of names that lead to it, so 0 is the root.
 #[derive(Clone, Copy, PartialEq, Eq)]
 pub enum Walked {
-    /// Each place is present.
+    /// All components are present, and none is refused.
     Present,
-    /// This is the first place that is absent.
+    /// This is the first component that is absent, and none is refused.
     Absent(u32),
-    /// The path is refused at this place.
+    /// The path is refused at this component, for this reason. It is the first one that is refused.
     Refused(u32, Why),
 }
 
@@ -28,11 +31,21 @@ struct Seen {
     owner: u32,
 }
 
-/// Walks along a path from the root, as creating lines do (tmpfiles.d(5) on unsafe path transitions). The answer is the
-/// first component at which the path is refused, otherwise the first absent component, or that all are present. A
-/// component above the last is refused if it is a link or not a directory. A component is refused if its parent does
-/// not belong to root, and it has another owner than its parent. An absent last component counts as owned by `made`,
-/// any other absent component by root.
+/// Walks along a path from the root, as creating lines do (tmpfiles.d(5) on unsafe path transitions).
+///
+/// The answer is the first component at which the path is refused. If no component is refused, the answer is the first
+/// absent component. If none is absent either, the answer says that all are present.
+///
+/// - A component before the last one is refused if it is a symbolic link, or is present and not a directory.
+/// - A component is refused if the directory above it does not belong to root, and the component belongs to a user
+///   other than the owner of that directory.
+/// - An absent last component counts as owned by `made`, the user ID that a new object there is to get. Any other
+///   absent component counts as owned by root.
+///
+/// For example, let `/run/app` be a link, and let everything belong to root. Then the answer for `/run/app/x` is
+/// `Refused(2, Why::Link)`.
+///
+/// The path must have fewer than 2^32 names. The only error is `AllocError`.
 pub fn walk<T: Tree>(
     alloc: Global,
     tree: &T,
@@ -64,7 +77,11 @@ pub fn walk<T: Tree>(
     }
 }
 
-/// The place at which such a walk is refused, counted by the names that lead to it, and why.
+/// Returns the first component at which `walk` refuses the path, with the reason, or `None` if the path is not
+/// refused.
+///
+/// The component is given by the number of names that lead to it. The user ID `made` is that of `walk`. The path must
+/// have fewer than 2^32 names. The only error is `AllocError`.
 pub fn refusal_of<T: Tree>(
     alloc: Global,
     tree: &T,
@@ -81,8 +98,11 @@ pub fn refusal_of<T: Tree>(
     }
 }
 
-/// The first component above a path that cannot be passed, counted by the names that lead to it, and why. It is a link,
-/// or another object that is not a directory. Owners do not count.
+/// Returns the first component before the last one that is a link, or is present and not a directory. Gives `None`
+/// if there is none.
+///
+/// The component is given by the number of names that lead to it, with the reason. Owners do not count. The path must
+/// have fewer than 2^32 names. The only error is `AllocError`.
 pub fn unsafe_component<T: Tree>(
     alloc: Global,
     tree: &T,
@@ -109,7 +129,7 @@ pub(crate) fn go_down(place: &mut TreePath, name: &Name) -> Result<(), AllocErro
     place.push(name.copy()?)
 }
 
-/// The object at a path.
+/// Returns the kind and the owner of the object at a path.
 fn seen_at<T: Tree>(tree: &T, at: &TreePath) -> Option<Seen>
     ensures seen { result ≡ seen_of (places (T.state tree.now) at.now) }
     ensures tree { IsTree (T.state tree.now) }
@@ -123,7 +143,7 @@ fn seen_at<T: Tree>(tree: &T, at: &TreePath) -> Option<Seen>
     }
 }
 
-/// The owner of a place, or the one that it counts as owned by if it is absent.
+/// Returns the owner of a component, or the one that it counts as owned by if it is absent.
 fn owner_of(place: Option<Seen>, absent: u32) -> u32
     ensures { result ≡ seen_owner place absent }
 {
@@ -133,7 +153,7 @@ fn owner_of(place: Option<Seen>, absent: u32) -> u32
     }
 }
 
-/// Why a place above the last is refused: for what it is, or else for its owner.
+/// Returns the reason to refuse a component before the last one: first for its kind, then for its owner.
 fn why_above(place: Option<Seen>, above: u32, owner: u32) -> Option<Why>
     ensures { result ≡ option_or (why_unsafe (seen_kind place)) (why_owner above owner) }
 {
@@ -143,7 +163,7 @@ fn why_above(place: Option<Seen>, above: u32, owner: u32) -> Option<Why>
     }
 }
 
-/// Why a place above the last can't be passed.
+/// Returns the reason why a component before the last one cannot be passed because of its kind.
 fn why_passed(place: Option<Seen>) -> Option<Why>
     ensures { result ≡ why_unsafe (seen_kind place) }
 {
@@ -160,7 +180,7 @@ fn why_passed(place: Option<Seen>) -> Option<Why>
     }
 }
 
-/// Whether a place may have its owner, given the owner of the place above.
+/// Returns the reason to refuse a component for its owner, given the owner of the directory above it.
 fn why_owner(above: u32, owner: u32) -> Option<Why>
     ensures { result ≡ why_owner above owner }
 {
@@ -171,7 +191,7 @@ fn why_owner(above: u32, owner: u32) -> Option<Why>
     }
 }
 
-/// The first absent place so far.
+/// Returns the first absent component so far.
 fn or_absent(absent: Option<u32>, place: Option<Seen>, k: u32) -> Option<u32>
     ensures { result ≡ option_or absent (if_absent place k) }
 {
@@ -184,7 +204,7 @@ fn or_absent(absent: Option<u32>, place: Option<Seen>, k: u32) -> Option<u32>
     }
 }
 
-/// The answer for a path that is not refused.
+/// Returns the answer for a path that is not refused.
 fn end_of(absent: Option<u32>) -> Walked
     ensures { result ≡ unrefused absent }
 {

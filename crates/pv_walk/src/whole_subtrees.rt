@@ -1,4 +1,4 @@
-//! Which of some paths can be taken away, each with all that stands below it.
+//! Which of some paths can be removed, each with everything below it.
 ghost use Rattle.std.specs.Prelude.{◌≡◌, ◌||◌, ◌&&◌, ◌==◌, not, [], ◌∷◌, ◌++◌, ℕ, length, reverse, true, is_some, IfOk, OnOk};
 ghost use Rattle.std.specs.List.{list_all};
 ghost use Rattle.std.specs.BTreeSet.{IsOrdered};
@@ -15,8 +15,11 @@ use pv_steps::{Tree, is_directory};
 use std::alloc::{AllocError, Global};
 use std::collections::BTreeSet;
 
-/// Those of some present paths, but the root, of which all that stands at and below them is among the paths. It looks at
-/// the names in each of them once.
+/// Returns those of the given paths below which nothing is missing: every object below them is among the given paths
+/// too. The root is left out.
+///
+/// All paths must be present. A path that is given twice counts once, and the call lists each directory among the paths
+/// once. The only error is `AllocError`.
 pub fn whole_of<T: Tree>(
     alloc: Global,
     tree: &T,
@@ -33,7 +36,7 @@ pub fn whole_of<T: Tree>(
     Ok(whole)
 }
 
-/// Adds a path other than the root whose children are all there.
+/// Adds a path other than the root, if everything directly below it was added before.
 fn add_whole<T: Tree>(
     alloc: Global,
     tree: &T,
@@ -51,7 +54,7 @@ fn add_whole<T: Tree>(
     Ok(())
 }
 
-/// Whether all that stands directly below a path is among some paths.
+/// Returns whether everything directly below a path is among some paths.
 fn has_children_in<T: Tree>(
     alloc: Global,
     tree: &T,
@@ -74,7 +77,7 @@ fn has_children_in<T: Tree>(
     Ok(true)
 }
 
-/// Whether a path is among some paths, of which it is often the first.
+/// Returns whether a path is among some paths, of which it is often the first.
 fn is_soon_among(paths: &BTreeSet<TreePath>, path: &TreePath) -> bool
     ensures { result ≡ is_one_of paths.now.keys path.now }
 {
@@ -84,14 +87,16 @@ fn is_soon_among(paths: &BTreeSet<TreePath>, path: &TreePath) -> bool
     }
 }
 
-/// Whether a path is among some paths.
+/// Returns whether a path is in a set of paths.
 pub fn is_among(paths: &BTreeSet<TreePath>, path: &TreePath) -> bool
     ensures { result ≡ is_one_of paths.now.keys path.now }
 {
     paths.contains(path)
 }
 
-/// Some paths for taking them away from the last one on: the deepest first, those of one depth in byte order.
+/// Sorts paths so that they can be removed from the end of the list: the deepest paths come last.
+///
+/// Read from its end, the list has paths of one depth in byte order. The only error is `AllocError`.
 pub fn deepest_last(alloc: Global, paths: BTreeSet<TreePath>) -> Result<Vec<TreePath>, AllocError>
     ensures members { IfOk result (λ ordered. (q : Path) → times q ordered.items ≡ times q paths.keys) }
     ensures deepest { IfOk result (λ ordered. IsNonDecreasingBy (λ path. length path) ordered.items) }

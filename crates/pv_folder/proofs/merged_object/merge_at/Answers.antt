@@ -1,4 +1,4 @@
-use Rattle.std.proofs.Common.{◌≡◌, ◌∙◌, Option, Some, sym, ap}
+use Rattle.std.proofs.Common.{◌∙◌, Option, Some, sym, ap}
 use Rattle.pv_path.specs.Paths.{parent_of}
 use Rattle.pv_path.proofs.Tests.{on_ok}
 use Rattle.pv_steps.specs.declared.object.Object.{Object}

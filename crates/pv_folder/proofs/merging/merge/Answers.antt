@@ -1,6 +1,4 @@
 use Rattle.std.proofs.Common.{◌∙◌, sym, ap, subst}
-use Rattle.pv_steps.specs.Trees.{Files}
-use Rattle.pv_tree.specs.Held.{Held}
 use Rattle.pv_folder.specs.Merge.{IsPlain, merged}
 use Rattle.pv_folder.proofs.MergingLaws.{merged_plained, plained_plain}
 use Rattle.pv_folder.proofs.merging.merge.Goals as goal

@@ -1,4 +1,4 @@
-use Rattle.std.proofs.Common.{◌∙◌, is_some, refl, sym, ap, subst, drop, List}
+use Rattle.std.proofs.Common.{◌∙◌, is_some, refl, sym, ap, subst, List}
 use Rattle.pv_path.specs.Paths.{Path}
 use Rattle.pv_steps.specs.declared.object.Object.{Object}
 use Rattle.pv_folder.proofs.MergingLaws.{IsMerging, merging_begins, merging_ends, merging_next, plain_here, said_here}

@@ -1,4 +1,4 @@
-use Rattle.std.proofs.Common.{◌≡◌, ◌∙◌, Option, List, ℕ, IfSome, ap, subst}
+use Rattle.std.proofs.Common.{◌≡◌, ◌∙◌, IfSome, ap, subst}
 use Rattle.pv_path.specs.Paths.{Path}
 use Rattle.pv_folder.specs.Content.{bytes_of, held, spelled}
 use Rattle.pv_folder.specs.Folders.{manifest_path}

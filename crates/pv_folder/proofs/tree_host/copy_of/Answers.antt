@@ -34,12 +34,12 @@ loop-place-init c =
     let built = subst (λ (g : Grown). IsGrowing t g.files g.last (drop 1 w)) (sym c.in_ok-builder.ensures) copied in
     (subst (λ (es : Planned). IsGrowing t c.in_ok-builder.builder.files c.in_ok-builder.builder.last es) (sym c.in_ok-advance.ensures.ok) built, c.in_ok-walk.ensures.tree)
 
-pub add_copy-requires-clause-names : goal.add_copy-requires-clause-names
-add_copy-requires-clause-names c =
+pub add_at-requires-clause-names : goal.add_at-requires-clause-names
+add_at-requires-clause-names c =
     next_named c.args.tree.now.files c.loop-place.builder.files c.loop-place.builder.last c.loop-place.walk c.in-Some-place.place.names.now (record { node = c.in-Some-place.place.node.now; payload = c.in-Some-place.place.payload.now }) c.in-Some-place.ensures c.loop-place.invariant.0 c.loop-place.invariant.1
 
-pub add_copy-requires-clause-object : goal.add_copy-requires-clause-object
-add_copy-requires-clause-object c =
+pub add_at-requires-clause-object : goal.add_at-requires-clause-object
+add_at-requires-clause-object c =
     let t = c.args.tree.now.files in
     let b = c.loop-place.builder in
     let p = c.in-Some-place.place.names.now in
@@ -47,8 +47,8 @@ add_copy-requires-clause-object c =
     let w = c.loop-place.walk in
     subst IsObject (sym c.in_ok-object.ensures) (is_object t b.files b.last p o (drop 1 w) (next t b.files b.last w p o c.in-Some-place.ensures c.loop-place.invariant.0) c.loop-place.invariant.1)
 
-pub add_copy-requires-clause-after : goal.add_copy-requires-clause-after
-add_copy-requires-clause-after c =
+pub add_at-requires-clause-after : goal.add_at-requires-clause-after
+add_at-requires-clause-after c =
     let t = c.args.tree.now.files in
     let b = c.loop-place.builder in
     let p = c.in-Some-place.place.names.now in
@@ -56,8 +56,8 @@ add_copy-requires-clause-after c =
     let w = c.loop-place.walk in
     is_after t b.files b.last p o (drop 1 w) (next t b.files b.last w p o c.in-Some-place.ensures c.loop-place.invariant.0)
 
-pub add_copy-requires-clause-parent : goal.add_copy-requires-clause-parent
-add_copy-requires-clause-parent c =
+pub add_at-requires-clause-parent : goal.add_at-requires-clause-parent
+add_at-requires-clause-parent c =
     let t = c.args.tree.now.files in
     let b = c.loop-place.builder in
     let p = c.in-Some-place.place.names.now in
@@ -81,8 +81,8 @@ loop-place-preserved c =
     let w = c.loop-place.walk in
     let more = grown t b.files b.last p o (drop 1 w) (next t b.files b.last w p o c.in-Some-place.ensures c.loop-place.invariant.0) in
     let copied = subst (λ (x : Object). IsGrowing t (fin.insert b.files p x) p (drop 1 w)) (sym c.in_ok-object.ensures) more in
-    let built = subst (λ (g : Grown). IsGrowing t g.files g.last (drop 1 w)) (sym c.in_ok-add_copy.ensures) copied in
-    (subst (λ (es : Planned). IsGrowing t c.add_copy.new.builder.files c.add_copy.new.builder.last es) (sym c.in_ok-advance-2.ensures.ok) built, c.loop-place.invariant.1)
+    let built = subst (λ (g : Grown). IsGrowing t g.files g.last (drop 1 w)) (sym c.in_ok-add_at.ensures) copied in
+    (subst (λ (es : Planned). IsGrowing t c.add_at.new.builder.files c.add_at.new.builder.last es) (sym c.in_ok-advance-2.ensures.ok) built, c.loop-place.invariant.1)
 
 pub returns : goal.returns
 returns c =

@@ -1,5 +1,5 @@
 -- stage_copy
-use Rattle.std.proofs.Common.{◌*◌, ap, subst, ◌∙◌, arith}
+use Rattle.std.proofs.Common.{◌*◌, ap, subst, ◌∙◌}
 use Rattle.std.specs.Prelude.{[], is_some}
 use Rattle.pv_walk.specs.Nodes.{object_states_of}
 use Rattle.pv_path.specs.Paths.{staging_of}

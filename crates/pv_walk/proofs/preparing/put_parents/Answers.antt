@@ -11,7 +11,7 @@ use Rattle.pv_steps.proofs.ActingLaws.{Moves, well, no_memory, acted_none, acted
 use Rattle.pv_walk.specs.Staging.{can_stage, most_new}
 use Rattle.pv_walk.specs.Putting.{Putting, IsPutStep}
 use Rattle.pv_walk.specs.Preparing.{with_parent, parent_file, parent_count, IsAbove, Preparing, IsPrepareStep, kept}
-use Rattle.pv_walk.proofs.PreparingLaws.{short_take, nonempty_take, above_take, next_parent, parented_next, parented_end, room_next, absent_parents, absent_parents-le, parent_acted, Parented}
+use Rattle.pv_walk.proofs.PreparingLaws.{short_take, nonempty_take, above_take, next_parent, parented_next, parented_end, room_next, absent_parents, absent_parents-le, none_put, parent_acted, parent_directory, Parented}
 use Rattle.pv_walk.proofs.preparing.put_parents.Goals as goal
 use Rattle.pv_path.proofs.PathLaws.{is_prefix-take, has_staging-take, length-parent_of, parent_of-push}
 
@@ -83,7 +83,7 @@ returns-in_err-go_down-clause-acted g c =
     let t = g.T.Tree.state c.args.tree.now in
     let path = c.args.path.now in
     let i = c.loop-name.name-index in
-    acted_ended g.T.Tree c.from_residual.result (no_memory c.from_residual.result c.from_residual.ensures.1)
+    acted_ended g.T.Tree c.from_residual-in_err-go_down.result (no_memory c.from_residual-in_err-go_down.result c.from_residual-in_err-go_down.ensures.1)
     (acted_within g.T.Tree (most_new * absent_parents path t i) (most_new * parent_count path t) (omega (arith, absent_parents-le path t i)) c.loop-name.invariant.acted)
 
 pub returns-in_err-put_parent-clause-acted : goal.returns-in_err-put_parent-clause-acted
@@ -137,3 +137,11 @@ returns-clause-parent g c =
     let path = c.args.path.now in
     let end : c.loop-name.name-index ≡ length path - 1 = omega (arith, c.loop-name-test.false, c.loop-name.auto.name-index-end, ap length c.loop-name.invariant.items, length-parent_of path) in
     subst (λ k. IsKind Directory (g.T.Tree.state c.loop-name.tree) (take k path)) end c.loop-name.invariant.parented.directory
+
+pub returns-then-branch-clause-ok : goal.returns-then-branch-clause-ok
+returns-then-branch-clause-ok g c =
+    none_put c.args.now c.args.path.now c.requires.unstaged (g.T.Tree.state c.args.tree.now) c.has_parent.ensures.tree c.requires.pass c.requires.swept (sym c.in_ok-has_parent.ensures.present ∙ c.if-branch.true)
+
+pub returns-then-branch-clause-parent : goal.returns-then-branch-clause-parent
+returns-then-branch-clause-parent g c =
+    parent_directory c.args.now c.args.path.now c.requires.unstaged (g.T.Tree.state c.args.tree.now) c.has_parent.ensures.tree c.requires.pass c.requires.swept (sym c.in_ok-has_parent.ensures.present ∙ c.if-branch.true)
