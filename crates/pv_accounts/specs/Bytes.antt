@@ -1,28 +1,28 @@
--- The bytes that end lines, part fields and members, and mark lines that are no entries (passwd(5),
--- group(5), shadow(5)).
+-- The bytes that end lines, separate fields and members, and mark lines that are not entries (passwd(5), group(5),
+-- shadow(5), gshadow(5)).
 use Prim.Native.Char.{code}
 use Rattle.std.specs.Prelude.{ℕ}
 
--- what ends a line
+-- The byte that ends a line.
 abbrev pub line_end : ℕ
 line_end = code "\n"
 
--- what stands between fields: `:`
+-- The byte between fields: `:`.
 abbrev pub colon : ℕ
 colon = code ":"
 
--- what stands between members: `,`
+-- The byte between members: `,`.
 abbrev pub comma : ℕ
 comma = code ","
 
--- what a line that takes entries from elsewhere begins with: `+`
+-- The first byte of a line that takes entries from elsewhere: `+`.
 abbrev pub plus : ℕ
 plus = code "+"
 
--- what a line that leaves such entries out begins with: `-`
+-- The first byte of a line that leaves such entries out: `-`.
 abbrev pub minus : ℕ
 minus = code "-"
 
--- what a line that is none begins with: `#`
+-- The first byte of a comment line: `#`.
 abbrev pub number_sign : ℕ
 number_sign = code "#"

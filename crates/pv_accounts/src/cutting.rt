@@ -1,10 +1,12 @@
-//! Texts cut at a byte.
+//! Splits texts at a byte.
 ghost use Rattle.std.specs.Prelude.{◌≡◌, ◌<◌, ◌≤◌, ◌==◌, [], ◌∷◌, not, length, MatchOption, IfSome};
 ghost use Rattle.std.specs.List.{prefix_len, slice_split};
 ghost use Rattle.pv_accounts.specs.Entries.{HasMore};
 
-/// What stands before the first place of a byte and what stands after it, or nothing if the text
-/// has no such byte.
+/// Splits a text at the first occurrence of a byte.
+///
+/// The answer is what is before this byte and what is after it, without the byte itself. It is `None` if the text
+/// does not have the byte. For example, `cut(b"a:b:c", b':')` gives `a` and `b:c`. The call does not allocate.
 pub fn cut(text: &[u8], byte: u8) -> Option<(&[u8], &[u8])>
     ensures parts { let pieces = slice_split (λ b. b == byte) text.now in
         MatchOption result (pieces ≡ text.now ∷ [])
@@ -19,7 +21,7 @@ pub fn cut(text: &[u8], byte: u8) -> Option<(&[u8], &[u8])>
     }
 }
 
-/// A text that has no such byte.
+/// Returns the text itself if `byte` does not occur in it, otherwise `None`. The call does not allocate.
 pub fn uncut(text: &[u8], byte: u8) -> Option<&[u8]>
     ensures { let pieces = slice_split (λ b. b == byte) text.now in
         MatchOption result (HasMore pieces) (λ whole. pieces ≡ whole.now ∷ []) }
@@ -30,7 +32,7 @@ pub fn uncut(text: &[u8], byte: u8) -> Option<&[u8]>
     }
 }
 
-/// How many bytes stand before the first place of a byte.
+/// Counts the bytes before the first occurrence of a byte.
 fn place_of(text: &[u8], byte: u8) -> usize
     ensures place { result ≡ prefix_len (λ b. not (b == byte)) text.now }
     ensures within { result ≤ length text.now }

@@ -1,4 +1,4 @@
-//! New entries and new members, with all other lines kept byte for byte.
+//! Adds new entries and new members to account files, and keeps all other lines byte for byte.
 ghost use Rattle.std.specs.Prelude.{◌≡◌, ◌<◌, ◌≤◌, ◌==◌, ◌∷◌, [], ◌++◌, true, map, length, OnOk, IfOk};
 ghost use Rattle.std.specs.List.{flat_map, list_any, slice_split};
 ghost use Rattle.std.specs.Str.{bytes_eq};
@@ -14,8 +14,16 @@ use crate::entry::{group_entry, gshadow_parts};
 use crate::find::{Kind, place_of};
 use std::alloc::{AllocError, Global};
 
-/// A text with one more line, before the first line that begins with `+`, otherwise at the end, where a last
-/// line without its end gets one first. All other lines stay as they are.
+/// Returns the text of an account file with one more line.
+///
+/// - `file` is the text of the file.
+/// - `entry` is the new line, without a line feed.
+///
+/// The new line comes before the first line that begins with `+`. If there is no such line, it comes at the end, and
+/// the text then ends with a line feed. A last line without a line feed gets one first. All other lines stay as they
+/// are.
+///
+/// The only error is `AllocError`.
 pub fn append_entry(alloc: Global, file: &[u8], entry: &[u8]) -> Result<Vec<u8>, AllocError>
     ensures text { IfOk result (λ text. text.items ≡ text_of (with_entry entry.now (lines_of file.now))) }
     ensures lines { let lines = with_entry entry.now (lines_of file.now) in
@@ -24,8 +32,16 @@ pub fn append_entry(alloc: Global, file: &[u8], entry: &[u8]) -> Result<Vec<u8>,
     append_entries(alloc, file, &[entry])
 }
 
-/// A text with more lines, all before the first line that begins with `+`, otherwise at the end, where a last
-/// line without its end gets one first. All other lines stay as they are.
+/// Returns the text of an account file with more lines, all at one location.
+///
+/// - `file` is the text of the file.
+/// - `entries` are the new lines, in their order, each without a line feed.
+///
+/// The new lines come before the first line that begins with `+`. If there is no such line, they come at the end, and
+/// the text then ends with a line feed. A last line without a line feed gets one first. All other lines stay as they
+/// are. If `entries` is empty, the text is unchanged.
+///
+/// The only error is `AllocError`.
 pub fn append_entries(alloc: Global, file: &[u8], entries: &[&[u8]]) -> Result<Vec<u8>, AllocError>
     ensures { IfOk result (λ text. text.items ≡ appended (map (λ entry. entry.now) entries.now) file.now) }
 {
@@ -42,8 +58,19 @@ pub fn append_entries(alloc: Global, file: &[u8], entries: &[&[u8]]) -> Result<V
     }
 }
 
-/// A text of /etc/group with a user at the end of the members of a group, where he is not among them.
-/// The first entry of the group counts. All other lines stay as they are.
+/// Returns the text of /etc/group with a user added at the end of the members of a group (group(5)). For the members in
+/// /etc/gshadow use `add_member_in`.
+///
+/// - `file` is the text of /etc/group.
+/// - `group` is the name of the group. The first entry with this name counts.
+/// - `user` is the name of the user.
+///
+/// The text is unchanged if the user is already a member in this entry, or if the file has no entry of the group. All
+/// other lines stay as they are.
+///
+/// The only error is `AllocError`.
+///
+/// For example, for the group `adm` and the user `alice` the line `adm:x:4:syslog` becomes `adm:x:4:syslog,alice`.
 pub fn add_member(
     alloc: Global,
     file: &[u8],
@@ -58,7 +85,18 @@ pub fn add_member(
     add_member_in(alloc, Kind::Group, file, group, user)
 }
 
-/// Adds a user at the end of the members of a group, in a file of a kind whose entries have members.
+/// Returns the text of /etc/group or /etc/gshadow with a user added at the end of the members of a group. For
+/// /etc/group, `add_member` does the same.
+///
+/// - `kind` says which file it is. It must be `Kind::Group` or `Kind::Gshadow`.
+/// - `file` is the text of the file.
+/// - `group` is the name of the group. The first entry with this name counts.
+/// - `user` is the name of the user.
+///
+/// The text is unchanged if the user is already a member in this entry, or if the file has no entry of the group. All
+/// other lines stay as they are.
+///
+/// The only error is `AllocError`.
 pub fn add_member_in(
     alloc: Global,
     kind: Kind,
@@ -83,14 +121,14 @@ pub fn add_member_in(
     }
 }
 
-/// The lines of a file.
+/// Splits a file into its lines.
 fn split(alloc: Global, file: &[u8]) -> Result<Vec<&[u8]>, AllocError>
     ensures { IfOk result (λ lines. map (λ line. line.now) lines.items ≡ lines_of file.now) }
 {
     file.split(|b| *b == b'\n').collect(alloc)
 }
 
-/// How many lines stand before a new entry.
+/// Counts the lines before a new entry.
 fn entry_place(lines: &[&[u8]]) -> usize
     ensures { result ≡ entry_place (map (λ line. line.now) lines.now) }
 {
@@ -102,8 +140,8 @@ fn entry_place(lines: &[&[u8]]) -> usize
     lines.len()
 }
 
-/// Whether a new entry stands before a line: one that begins with `+`, or the empty one after the last
-/// line end.
+/// Returns whether a new entry comes before a line. This is a line that begins with `+`, or the empty one after the
+/// last line feed.
 fn is_behind_new(is_last: bool, line: &[u8]) -> bool
     ensures { result ≡ is_behind_new is_last line.now }
 {
@@ -113,7 +151,7 @@ fn is_behind_new(is_last: bool, line: &[u8]) -> bool
     }
 }
 
-/// The text of lines, of which some are not in the file.
+/// Joins lines of the file, new entries between them, one line, and the lines after it.
 fn joined(
     alloc: Global,
     front: &[&[u8]],
@@ -133,7 +171,7 @@ fn joined(
     Ok(text)
 }
 
-/// Adds lines, each with its end.
+/// Adds lines, each with a line feed after it.
 fn add_ended(text: &mut Vec<u8>, lines: &[&[u8]]) -> Result<(), AllocError>
     ensures { let added = flat_map (λ line. line.now ++ line_end ∷ []) lines.now in
         OnOk result (text.new.items ≡ text.old.items ++ added) }
@@ -145,7 +183,7 @@ fn add_ended(text: &mut Vec<u8>, lines: &[&[u8]]) -> Result<(), AllocError>
     Ok(())
 }
 
-/// Adds lines, each after the end of the one before.
+/// Adds lines, each with a line feed before it.
 fn add_begun(text: &mut Vec<u8>, lines: &[&[u8]]) -> Result<(), AllocError>
     ensures { let added = flat_map (λ line. line_end ∷ line.now) lines.now in
         OnOk result (text.new.items ≡ text.old.items ++ added) }
@@ -157,7 +195,7 @@ fn add_begun(text: &mut Vec<u8>, lines: &[&[u8]]) -> Result<(), AllocError>
     Ok(())
 }
 
-/// The line of a group with a user at the end of its members, where he is not among them.
+/// Returns the line of a group with a user at the end of its members. If the user is a member, the line is unchanged.
 fn longer(alloc: Global, kind: Kind, line: &[u8], user: &[u8]) -> Result<Vec<u8>, AllocError>
     requires { has_members kind ≡ true }
     ensures { IfOk result (λ text. text.items ≡ longer (test_of kind) user.now line.now) }
@@ -174,7 +212,7 @@ fn longer(alloc: Global, kind: Kind, line: &[u8], user: &[u8]) -> Result<Vec<u8>
     Ok(text)
 }
 
-/// The members of a group: the last of the four fields of its entry.
+/// Returns the members of a group: the last of the four fields of its entry.
 fn members_in(kind: Kind, line: &[u8]) -> &[u8]
     requires { has_members kind ≡ true }
     ensures { result.now ≡ members_of (test_of kind) line.now }
@@ -186,7 +224,7 @@ fn members_in(kind: Kind, line: &[u8]) -> &[u8]
     }
 }
 
-/// The members in an entry of /etc/group.
+/// Returns the members in an entry of /etc/group.
 fn group_members(line: &[u8]) -> &[u8]
     ensures { result.now ≡ members_of is_group line.now }
 {
@@ -196,7 +234,7 @@ fn group_members(line: &[u8]) -> &[u8]
     }
 }
 
-/// The members in an entry of /etc/gshadow.
+/// Returns the members in an entry of /etc/gshadow.
 fn gshadow_members(line: &[u8]) -> &[u8]
     ensures { result.now ≡ members_of is_gshadow line.now }
 {
@@ -206,14 +244,14 @@ fn gshadow_members(line: &[u8]) -> &[u8]
     }
 }
 
-/// Whether a user is among members.
+/// Returns whether a user is among some members.
 fn is_member(user: &[u8], members: &[u8]) -> bool
     ensures { result ≡ is_member user.now members.now }
 {
     !members.is_empty() && is_piece(user, members)
 }
 
-/// Whether a word is one of those between commas.
+/// Returns whether a word is one of those between commas.
 fn is_piece(word: &[u8], text: &[u8]) -> bool
     ensures { result ≡ list_any (λ piece. bytes_eq piece word.now) (slice_split (λ c. c == comma) text.now) }
 {

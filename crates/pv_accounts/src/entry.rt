@@ -10,61 +10,70 @@ use crate::cutting::{cut, uncut};
 use pv_acl::decimal_id;
 
 /// An entry of /etc/passwd (passwd(5)), each field a slice of the file.
+///
+/// A line is an entry if it has exactly seven fields between colons, and both IDs are decimal numbers from 0 to
+/// 4294967294. The name must not be empty and must not begin with `+`, `-` or `#`.
 #[derive(Clone, Copy)]
 pub struct PasswdEntry<'a> {
     /// The login name.
     pub name: &'a [u8],
-    /// The encrypted password, or `x` where it stands in /etc/shadow.
+    /// The encrypted password, or `x` if the password is in /etc/shadow.
     pub password: &'a [u8],
     /// The numeric user ID, in decimal.
     pub uid: &'a [u8],
     /// The numeric ID of the user's primary group, in decimal.
     pub gid: &'a [u8],
-    /// The user's full name, or another comment.
+    /// The full name of the user, or another comment.
     pub gecos: &'a [u8],
-    /// The path of the user's home directory.
+    /// The path of the home directory.
     pub home: &'a [u8],
-    /// The path of the program that a login starts.
+    /// The path of the program that is started at login.
     pub shell: &'a [u8],
 }
 
 /// An entry of /etc/group (group(5)), each field a slice of the file.
+///
+/// A line is an entry if it has exactly four fields between colons, and the GID is a decimal number from 0 to
+/// 4294967294. The name must not be empty and must not begin with `+`, `-` or `#`.
 #[derive(Clone, Copy)]
 pub struct GroupEntry<'a> {
     /// The name of the group.
     pub name: &'a [u8],
-    /// The encrypted password of the group, or `x` where it stands in /etc/gshadow.
+    /// The encrypted password of the group, or `x` if the password is in /etc/gshadow.
     pub password: &'a [u8],
     /// The numeric group ID, in decimal.
     pub gid: &'a [u8],
-    /// The names of the users that are members, with commas between them.
+    /// The names of the members, with commas between them.
     pub members: &'a [u8],
 }
 
 /// An entry of /etc/shadow (shadow(5)), each field a slice of the file.
+///
+/// A line is an entry if it has exactly nine fields between colons. The name must not be empty and must not begin
+/// with `+`, `-` or `#`. The other fields are not checked.
 #[derive(Clone, Copy)]
 pub struct ShadowEntry<'a> {
     /// The login name.
     pub name: &'a [u8],
-    /// The encrypted password, or a text with which nobody can log in, as `!` or `*`.
+    /// The encrypted password, or a text such as `!` or `*`, with which no password can match.
     pub password: &'a [u8],
-    /// The day of the last change of the password, in days since 1970-01-01.
+    /// The date of the last change of the password, in days since 1970-01-01 UTC.
     pub changed: &'a [u8],
-    /// The least age at which the password may be changed, in days.
+    /// The minimum age of the password before it may be changed, in days.
     pub least: &'a [u8],
-    /// The greatest age at which the password must be changed, in days.
+    /// The maximum age of the password after which it must be changed, in days.
     pub most: &'a [u8],
-    /// How many days before the password ends the user is warned.
+    /// How many days before the password expires the user is warned.
     pub warn: &'a [u8],
-    /// How many days after the password has ended it is still accepted.
+    /// How many days after the password has expired it is still accepted.
     pub inactive: &'a [u8],
-    /// The day on which the account ends, in days since 1970-01-01.
+    /// The date on which the account expires, in days since 1970-01-01 UTC.
     pub expire: &'a [u8],
-    /// Kept for later use.
+    /// Reserved for future use.
     pub reserved: &'a [u8],
 }
 
-/// The entry of /etc/passwd that a line is, if it is one.
+/// Reads a line as an entry of /etc/passwd, if it is one.
 pub(crate) fn passwd_entry(line: &[u8]) -> Option<PasswdEntry<'_>>
     ensures { option_map passwd_fields result ≡ entry_of is_passwd line.now }
 {
@@ -76,7 +85,7 @@ pub(crate) fn passwd_entry(line: &[u8]) -> Option<PasswdEntry<'_>>
     }
 }
 
-/// The entry of /etc/group that a line is, if it is one.
+/// Reads a line as an entry of /etc/group, if it is one.
 pub(crate) fn group_entry(line: &[u8]) -> Option<GroupEntry<'_>>
     ensures { option_map group_fields result ≡ entry_of is_group line.now }
 {
@@ -93,8 +102,11 @@ pub(crate) fn group_entry(line: &[u8]) -> Option<GroupEntry<'_>>
     }
 }
 
-/// The fields of a line of /etc/gshadow, if the line is an entry (gshadow(5)). They are the name, the encrypted
-/// password, the administrators and the members of a group.
+/// Reads a line as an entry of /etc/gshadow (gshadow(5)).
+///
+/// The answer is the four fields of the entry, as slices of the line: the name of the group, its encrypted password,
+/// its administrators and its members. It is `None` unless the line has exactly four fields between colons and the
+/// name is allowed. A name must not be empty and must not begin with `+`, `-` or `#`. The call does not allocate.
 pub fn gshadow_parts(line: &[u8]) -> Option<(&[u8], &[u8], &[u8], &[u8])>
     ensures { let fields = option_map (λ f. f.0.now ∷ f.1.now ∷ f.2.now ∷ f.3.now ∷ []) result in
         fields ≡ entry_of is_gshadow line.now }
@@ -107,7 +119,7 @@ pub fn gshadow_parts(line: &[u8]) -> Option<(&[u8], &[u8], &[u8], &[u8])>
     }
 }
 
-/// The entry of /etc/shadow that a line is, if it is one.
+/// Reads a line as an entry of /etc/shadow, if it is one.
 pub(crate) fn shadow_entry(line: &[u8]) -> Option<ShadowEntry<'_>>
     ensures { option_map shadow_fields result ≡ entry_of is_shadow line.now }
 {
@@ -119,7 +131,7 @@ pub(crate) fn shadow_entry(line: &[u8]) -> Option<ShadowEntry<'_>>
     }
 }
 
-/// The first three fields of a line, and what stands behind them, where something does.
+/// Splits off the first three fields of a line, if something follows them.
 fn three_fields(line: &[u8]) -> Option<(&[u8], &[u8], &[u8], &[u8])>
     ensures { MatchOption result ((is_passwd (fields_of line.now) ≡ false) × (is_shadow (fields_of line.now) ≡ false))
         (λ f. fields_of line.now ≡ f.0.now ∷ f.1.now ∷ f.2.now ∷ fields_of f.3.now) }
@@ -130,8 +142,8 @@ fn three_fields(line: &[u8]) -> Option<(&[u8], &[u8], &[u8], &[u8])>
     Some((name, password, third, rest))
 }
 
-/// The fields of a line that has four. Such a line is an entry of /etc/group or /etc/gshadow. It may also be the end of
-/// a longer entry, after three fields of /etc/passwd or five of /etc/shadow.
+/// Splits a line that has exactly four fields. Such a line is an entry of /etc/group or /etc/gshadow. It may also be
+/// the end of a longer entry, after three fields of /etc/passwd or five of /etc/shadow.
 fn four_fields(line: &[u8]) -> Option<(&[u8], &[u8], &[u8], &[u8])>
     ensures { MatchOption result
         ((is_group (fields_of line.now) ≡ false) × (is_gshadow (fields_of line.now) ≡ false)
@@ -146,7 +158,7 @@ fn four_fields(line: &[u8]) -> Option<(&[u8], &[u8], &[u8], &[u8])>
     Some((first, second, third, fourth))
 }
 
-/// The fields of a line that has seven.
+/// Splits a line that has exactly seven fields.
 fn seven_fields(line: &[u8]) -> Option<PasswdEntry<'_>>
     ensures { MatchOption result (is_passwd (fields_of line.now) ≡ false)
         (λ entry. fields_of line.now ≡ passwd_fields entry) }
@@ -164,7 +176,7 @@ fn seven_fields(line: &[u8]) -> Option<PasswdEntry<'_>>
     })
 }
 
-/// The fields of a line that has nine.
+/// Splits a line that has exactly nine fields.
 fn nine_fields(line: &[u8]) -> Option<ShadowEntry<'_>>
     ensures { MatchOption result (is_shadow (fields_of line.now) ≡ false)
         (λ entry. fields_of line.now ≡ shadow_fields entry) }
@@ -186,7 +198,7 @@ fn nine_fields(line: &[u8]) -> Option<ShadowEntry<'_>>
     })
 }
 
-/// Whether a name may be that of an entry: not empty, and not beginning with `+`, `-` or `#`.
+/// Returns whether an entry may have this name: it is not empty, and does not begin with `+`, `-` or `#`.
 fn is_entry_name(name: &[u8]) -> bool
     ensures { result ≡ is_entry_name name.now }
 {
@@ -196,7 +208,7 @@ fn is_entry_name(name: &[u8]) -> bool
     }
 }
 
-/// Whether a text is a decimal ID, 0 to 4294967294 without leading zeros.
+/// Returns whether a text is a decimal ID: 0 to 4294967294 without leading zeros.
 fn is_decimal_id(text: &[u8]) -> bool
     ensures { result ≡ is_decimal_id text.now }
 {

@@ -1,4 +1,4 @@
-//! The names of the entries of a file, looked up without a pass over all (shadow(5), gshadow(5)).
+//! The names of the entries of a file, as a set (passwd(5), group(5), shadow(5), gshadow(5)).
 ghost use Rattle.std.specs.Prelude.{◌≡◌, ◌||◌, ℕ, List, is_some, IfOk, OnOk};
 ghost use Rattle.std.specs.Str.{bytes_eq};
 ghost use Rattle.pv_accounts.specs.Among.{is_among};
@@ -10,14 +10,16 @@ use crate::find::{Kind, name_in};
 use std::alloc::{AllocError, Global};
 use std::collections::HashSet;
 
-/// The names of entries, each looked up without a pass over all.
+/// A set of names of entries. A lookup does not read the file again.
 #[derive(Drop)]
 pub struct EntryNames<'a> {
     names: HashSet<&'a [u8]>,
 }
 
 impl<'a> EntryNames<'a> {
-    /// The names of all entries of a file.
+    /// Collects the names of all entries of a file. `kind` says which of the four files it is.
+    ///
+    /// The only error is `AllocError`.
     pub fn of(alloc: Global, kind: Kind, file: &'a [u8]) -> Result<Self, AllocError>
         ensures { IfOk result (λ names. (name : List ℕ) →
             is_among names name ≡ is_some (entry_named (test_of kind) file.entry.now name)) }
@@ -45,7 +47,9 @@ impl<'a> EntryNames<'a> {
         }
     }
 
-    /// Adds a name.
+    /// Adds a name. Nothing changes if the name is already there.
+    ///
+    /// The only error is `AllocError`.
     pub fn add(&mut self, name: &'a [u8]) -> Result<(), AllocError>
         ensures { OnOk result ((other : List ℕ) →
             is_among self.new other ≡ (bytes_eq name.entry.now other || is_among self.old other)) }
@@ -54,7 +58,7 @@ impl<'a> EntryNames<'a> {
         Ok(())
     }
 
-    /// Whether a name is among them.
+    /// Returns whether a name is in the set: that of an entry of the file, or one that was added.
     pub fn contains(&self, name: &[u8]) -> bool
         ensures { result ≡ is_among self.now name.now }
     {

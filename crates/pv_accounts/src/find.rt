@@ -1,4 +1,4 @@
-//! Entries by name and by ID; the first of a name counts.
+//! Finds entries by name and by ID. Of two entries with one name the first counts.
 ghost use Rattle.std.specs.Prelude.{◌≡◌, ◌≤◌, option_and_then, IfSome};
 ghost use Rattle.std.specs.List.{find, position_or_len};
 ghost use Rattle.std.specs.Option.{option_map};
@@ -11,20 +11,20 @@ use crate::cutting::cut;
 use crate::entry::{group_entry, gshadow_parts, passwd_entry, shadow_entry};
 use pv_acl::decimal_id;
 
-/// Which account file it is.
+/// Which account file a text is.
 #[derive(Clone, Copy)]
 pub enum Kind {
-    /// /etc/passwd, with an entry for each user.
+    /// /etc/passwd, with an entry for each user (passwd(5)).
     Passwd,
-    /// /etc/group, with an entry for each group.
+    /// /etc/group, with an entry for each group (group(5)).
     Group,
-    /// /etc/shadow, with the password of each user.
+    /// /etc/shadow, with the passwords of users (shadow(5)).
     Shadow,
-    /// /etc/gshadow, with the password of each group.
+    /// /etc/gshadow, with the passwords and the administrators of groups (gshadow(5)).
     Gshadow,
 }
 
-/// The name of the entry that a line is, if it is one.
+/// Returns the name of the entry that a line is, if it is one.
 pub(crate) fn name_in(kind: Kind, line: &[u8]) -> Option<&[u8]>
     ensures { option_map (λ name. name.now) result ≡ option_map name_of (entry_of (test_of kind) line.now) }
 {
@@ -48,7 +48,7 @@ pub(crate) fn name_in(kind: Kind, line: &[u8]) -> Option<&[u8]>
     }
 }
 
-/// Whether a line is an entry with this name.
+/// Returns whether a line is an entry with this name.
 pub(crate) fn is_entry_named(kind: Kind, line: &[u8], name: &[u8]) -> bool
     ensures { result ≡ is_entry_named (test_of kind) name.now line.now }
 {
@@ -58,7 +58,12 @@ pub(crate) fn is_entry_named(kind: Kind, line: &[u8], name: &[u8]) -> bool
     }
 }
 
-/// The first line of a file that is an entry with this name.
+/// Returns the first line of a file that is an entry with this name, or `None` if there is none.
+///
+/// - `kind` says which of the four files it is.
+/// - `file` is the text of the file.
+///
+/// The line is a slice of the file, without its line feed. The call does not allocate.
 pub fn find_line<'a>(kind: Kind, file: &'a [u8], name: &[u8]) -> Option<&'a [u8]>
     ensures line { option_map (λ line. line.now) result ≡ find (is_entry_named (test_of kind) name.now) (lines_of file.now) }
     ensures entry { let line = option_map (λ line. line.now) result in
@@ -78,7 +83,8 @@ pub fn find_line<'a>(kind: Kind, file: &'a [u8], name: &[u8]) -> Option<&'a [u8]
     }
 }
 
-/// How many lines of a file stand before the first entry with this name.
+/// Counts the lines before the first entry with this name. If there is no such entry, the answer is the number of all
+/// lines.
 pub(crate) fn place_of(kind: Kind, file: &[u8], name: &[u8]) -> usize
     ensures { result ≡ position_or_len (is_entry_named (test_of kind) name.now) (lines_of file.now) }
 {
@@ -98,7 +104,7 @@ pub(crate) fn place_of(kind: Kind, file: &[u8], name: &[u8]) -> usize
     }
 }
 
-/// The ID of the entry that a line is: its third field, where that is a decimal ID.
+/// Returns the ID of the entry that a line is: its third field, if that is a decimal ID.
 fn id_in(kind: Kind, line: &[u8]) -> Option<u32>
     ensures { result ≡ option_and_then id_in (entry_of (test_of kind) line.now) }
 {
@@ -122,7 +128,7 @@ fn id_in(kind: Kind, line: &[u8]) -> Option<u32>
     }
 }
 
-/// The name and the ID of the entry that a line is, if it is one and has an ID.
+/// Returns the name and the ID of the entry that a line is, if it is an entry with an ID.
 pub(crate) fn named_in(kind: Kind, line: &[u8]) -> Option<(&[u8], u32)>
     ensures { option_map (λ named. (named.0.now, named.1)) result ≡ named_in (test_of kind) line.now }
 {
@@ -131,7 +137,7 @@ pub(crate) fn named_in(kind: Kind, line: &[u8]) -> Option<(&[u8], u32)>
     Some((name, id))
 }
 
-/// The ID of the first entry with this name.
+/// Returns the ID of the first entry with this name, if there is one.
 pub(crate) fn find_id(kind: Kind, file: &[u8], name: &[u8]) -> Option<u32>
     ensures value { result ≡ id_named (test_of kind) file.now name.now }
     ensures small { IfSome result (λ id. id ≤ 4294967294) }
@@ -140,14 +146,14 @@ pub(crate) fn find_id(kind: Kind, file: &[u8], name: &[u8]) -> Option<u32>
     id_in(kind, line)
 }
 
-/// What an entry is looked for by: its ID, and a name that it does not have.
+/// What an entry is searched by: its ID, and a name that it does not have.
 #[derive(Clone, Copy)]
 struct Sought<'a> {
     id: u32,
     but: &'a [u8],
 }
 
-/// The name of the entry that a line is, where it is sought.
+/// Returns the name of the entry that a line is, if it is searched for.
 fn name_beside<'a>(kind: Kind, line: &'a [u8], sought: Sought<'_>) -> Option<&'a [u8]>
     ensures { let held = option_and_then (only_if (holds_beside sought.entry.id sought.entry.but.now)) (entry_of (test_of kind) line.now) in
         option_map (λ name. name.now) result ≡ option_map name_of held }
@@ -160,7 +166,8 @@ fn name_beside<'a>(kind: Kind, line: &'a [u8], sought: Sought<'_>) -> Option<&'a
     }
 }
 
-/// The name of the entry at a place, where it is sought and no earlier entry has its name.
+/// Returns the name of the entry at the line with this index, if it is searched for and no earlier entry has its
+/// name.
 fn holder_at<'a>(
     kind: Kind,
     file: &[u8],
@@ -179,7 +186,8 @@ fn holder_at<'a>(
     }
 }
 
-/// The name of the first entry that counts, has an ID, and has another name than `but`.
+/// Returns the name of the first entry that has this ID and a name other than `but`. Of two entries with one name only
+/// the first counts.
 pub(crate) fn find_holder<'a>(kind: Kind, file: &'a [u8], id: u32, but: &[u8]) -> Option<&'a [u8]>
     ensures { option_map (λ name. name.now) result ≡ holder_of (test_of kind) file.now id but.now }
 {

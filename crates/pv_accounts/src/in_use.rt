@@ -1,4 +1,4 @@
-//! The names and IDs that are in use, looked up without a pass over all (passwd(5), group(5)).
+//! The names and IDs that are in use, as a map (passwd(5), group(5)).
 ghost use Rattle.std.specs.Prelude.{◌≡◌, ◌+◌, [], ◌∷◌, ◌++◌, None, IfOk};
 ghost use Rattle.pv_accounts.specs.InUse.{AreApart, count_of, id_of, ids_of, is_held, is_held_beside, is_own, with_line};
 ghost use Rattle.pv_accounts.specs.Kinds.{test_of};
@@ -10,8 +10,9 @@ use std::alloc::{AllocError, Global};
 use std::collections::HashMap;
 use std::marker::Model;
 
-/// Names with their IDs, each looked up without a pass over all. Clauses see the list of names with IDs, in the
-/// order in which they came.
+/// A map from names to their IDs, which can also be searched by ID. A lookup does not read the file again.
+///
+/// In contracts, a value is the list of names with their IDs, in the order in which they were added.
 #[derive(Drop)]
 pub struct InUse<'a> {
     /// The ID of each name.
@@ -32,7 +33,7 @@ impl<'a> Model for InUse<'a> {
         × AreCounts u.counts.entries (map (λ e. (e.0.now, e.1)) u.ids.entries) };
 }
 
-/// The number after one. A number past 64 bits counts as running out of memory.
+/// Adds one to a number. A number above 64 bits counts as running out of memory.
 fn next_count(count: usize) -> Result<usize, AllocError>
     ensures { IfOk result (λ next. next ≡ count + 1) }
 {
@@ -40,7 +41,7 @@ fn next_count(count: usize) -> Result<usize, AllocError>
 }
 
 impl<'a> InUse<'a> {
-    /// No names. It takes no memory.
+    /// Makes an empty map. The call does not allocate.
     pub fn new(alloc: Global) -> Self
         ensures { result ≡ [] }
     {
@@ -50,7 +51,10 @@ impl<'a> InUse<'a> {
         }
     }
 
-    /// The names and IDs of a file: of two entries with one name the first counts.
+    /// Collects the names and the IDs of the entries of a file. `kind` says which of the four files it is.
+    ///
+    /// Only entries whose third field is a decimal ID are in the map. Of two such entries with one name the first
+    /// counts. The only error is `AllocError`.
     pub fn of(alloc: Global, kind: Kind, file: &'a [u8]) -> Result<Self, AllocError>
         ensures { IfOk result (λ ids. ids ≡ ids_of (test_of kind) file.entry.now) }
     {
@@ -63,7 +67,7 @@ impl<'a> InUse<'a> {
         ids.with_line(kind, rest)
     }
 
-    /// The names and IDs with the name and ID of a line added, where the name is not yet there.
+    /// Adds the name and the ID of a line, unless the name is already there.
     fn with_line(self, kind: Kind, line: &'a [u8]) -> Result<Self, AllocError>
         ensures { IfOk result (λ ids. ids ≡ with_line (test_of kind) self.entry line.entry.now) }
     {
@@ -76,7 +80,9 @@ impl<'a> InUse<'a> {
         self.with(name, id)
     }
 
-    /// Adds a name, which is not yet there, with its ID.
+    /// Adds a name with its ID at the end. The name must not be there yet.
+    ///
+    /// The only error is `AllocError`, and then the map is gone.
     pub fn with(self, name: &'a [u8], id: u32) -> Result<Self, AllocError>
         requires { id_of self name.now ≡ None }
         ensures { IfOk result (λ ids. ids ≡ self.entry ++ (name.entry.now, id) ∷ []) }
@@ -91,7 +97,7 @@ impl<'a> InUse<'a> {
         Ok(InUse { ids, counts })
     }
 
-    /// The ID of a name.
+    /// Returns the ID of a name, or `None` if the name is not there.
     pub fn id_of(&self, name: &[u8]) -> Option<u32>
         ensures value { result ≡ id_of self.now name.now }
         ensures apart { AreApart self.now }
@@ -99,21 +105,21 @@ impl<'a> InUse<'a> {
         self.ids.get(name).copied()
     }
 
-    /// How many names have an ID.
+    /// Returns how many names have an ID.
     fn count(&self, id: u32) -> usize
         ensures { result ≡ count_of self.now id }
     {
         self.counts.get(&id).copied().unwrap_or(0)
     }
 
-    /// Whether some name has an ID.
+    /// Returns whether some name has this ID.
     pub fn is_held(&self, id: u32) -> bool
         ensures { result ≡ is_held self.now id }
     {
         self.count(id) > 0
     }
 
-    /// Whether a name other than one has an ID.
+    /// Returns whether a name other than `but` has this ID.
     pub fn is_held_beside(&self, id: u32, but: &[u8]) -> bool
         ensures { result ≡ is_held_beside self.now id but.now }
     {
@@ -125,7 +131,7 @@ impl<'a> InUse<'a> {
         }
     }
 
-    /// Whether a name has an ID.
+    /// Returns whether this name has this ID.
     fn is_own(&self, id: u32, name: &[u8]) -> bool
         ensures value { result ≡ is_own self.now id name.now }
         ensures apart { AreApart self.now }

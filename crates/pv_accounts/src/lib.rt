@@ -1,6 +1,8 @@
 //! The account files /etc/passwd, /etc/group, /etc/shadow and /etc/gshadow (passwd(5), group(5), shadow(5),
-//! gshadow(5)). Their entries are slices of the file. The crate tells which names hold an ID, and makes files with more
-//! entries or members.
+//! gshadow(5)).
+//!
+//! The crate reads their entries as slices of the file, looks up names and IDs, and makes files with more entries or
+//! more members. Lines that are not entries are passed over, and are kept byte for byte.
 #![tactic(auto)]
 
 mod cutting;

@@ -1,4 +1,4 @@
-//! IDs of users and groups by the account files.
+//! Looks up the IDs of users and groups in the account files.
 ghost use Rattle.std.specs.Prelude.{◌≡◌};
 ghost use Rattle.pv_accounts.specs.Entries.{is_passwd, is_group};
 ghost use Rattle.pv_accounts.specs.Files.{id_or_root, is_root};
@@ -6,12 +6,12 @@ ghost use Rattle.pv_accounts.specs.Files.{id_or_root, is_root};
 use crate::views::{GroupView, PasswdView};
 use pv_acl::Names;
 
-/// The lookup of users and groups in two account files, where `root` is 0 whatever they have.
+/// A lookup of users and groups in two account files. The name `root` always has the ID 0, whatever the files say.
 #[derive(Drop)]
 pub struct FileNames<'a> {
-    /// Where users are looked up.
+    /// The file in which users are looked up.
     pub passwd: PasswdView<'a>,
-    /// Where groups are looked up.
+    /// The file in which groups are looked up.
     pub group: GroupView<'a>,
 }
 
@@ -37,6 +37,7 @@ impl<'a> Names for FileNames<'a> {
     }
 }
 
+/// Returns whether a name is that of the superuser.
 fn is_root(name: &[u8]) -> bool
     ensures { result ≡ is_root name.now }
 {

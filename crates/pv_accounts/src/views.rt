@@ -1,4 +1,4 @@
-//! The account files as their callers see them, lent and not copied.
+//! Views of the account files, which borrow the text and do not copy it.
 ghost use Rattle.std.specs.Prelude.{◌≡◌, ◌≤◌, IfSome};
 ghost use Rattle.std.specs.Option.{option_map};
 ghost use Rattle.pv_accounts.specs.Entries.{is_passwd, is_group, is_shadow};
@@ -9,7 +9,7 @@ use crate::entry::{GroupEntry, PasswdEntry, ShadowEntry, group_entry, passwd_ent
 use crate::find::{Kind, find_holder, find_id, find_line};
 use std::marker::Model;
 
-/// The entries of /etc/passwd (passwd(5)). Clauses see the bytes of the file.
+/// A view of /etc/passwd by its entries (passwd(5)). In contracts, a value is the list of the bytes of the file.
 #[derive(Drop)]
 pub struct PasswdView<'a> {
     file: &'a [u8],
@@ -23,7 +23,8 @@ impl<'a> Model for PasswdView<'a> {
     ghost view = { λ v. v.file.now };
 }
 
-/// The entries of a text of /etc/passwd.
+/// Returns a view of a text of /etc/passwd. The call accepts any text, since lines that are not entries are passed
+/// over. The call does not allocate.
 pub fn passwd_view(file: &[u8]) -> PasswdView<'_>
     ensures { result ≡ file.now }
 {
@@ -31,14 +32,16 @@ pub fn passwd_view(file: &[u8]) -> PasswdView<'_>
 }
 
 impl<'a> PasswdView<'a> {
-    /// The first entry with this name, each field a slice of the file.
+    /// Returns the first entry with this name, or `None` if there is none. The call does not allocate.
     pub fn entry(&self, name: &[u8]) -> Option<PasswdEntry<'a>>
         ensures { option_map passwd_fields result ≡ entry_named is_passwd self.now name.now }
     {
         passwd_entry(find_line(Kind::Passwd, self.file, name)?)
     }
 
-    /// The UID of the first entry with this name.
+    /// Returns the UID of the first entry with this name, or `None` if there is none. The call does not allocate.
+    ///
+    /// For example, with the line `www-data:x:33:33::/var/www:/usr/sbin/nologin` the name `www-data` has the UID 33.
     pub fn uid_of(&self, name: &[u8]) -> Option<u32>
         ensures value { result ≡ id_named is_passwd self.now name.now }
         ensures small { IfSome result (λ id. id ≤ 4294967294) }
@@ -46,8 +49,9 @@ impl<'a> PasswdView<'a> {
         find_id(Kind::Passwd, self.file, name)
     }
 
-    /// The name of the first entry that counts, has this UID, and has another name than `but`. Of two
-    /// entries with one name the first counts.
+    /// Returns the name of the first entry that has this UID and a name other than `but`, or `None` if there is none.
+    ///
+    /// Of two entries with one name only the first counts. The call does not allocate.
     pub fn holder(&self, id: u32, but: &[u8]) -> Option<&'a [u8]>
         ensures { option_map (λ name. name.now) result ≡ holder_of is_passwd self.now id but.now }
     {
@@ -55,7 +59,7 @@ impl<'a> PasswdView<'a> {
     }
 }
 
-/// The entries of /etc/group (group(5)). Clauses see the bytes of the file.
+/// A view of /etc/group by its entries (group(5)). In contracts, a value is the list of the bytes of the file.
 #[derive(Drop)]
 pub struct GroupView<'a> {
     file: &'a [u8],
@@ -69,7 +73,8 @@ impl<'a> Model for GroupView<'a> {
     ghost view = { λ v. v.file.now };
 }
 
-/// The entries of a text of /etc/group.
+/// Returns a view of a text of /etc/group. The call accepts any text, since lines that are not entries are passed over.
+/// The call does not allocate.
 pub fn group_view(file: &[u8]) -> GroupView<'_>
     ensures { result ≡ file.now }
 {
@@ -77,14 +82,14 @@ pub fn group_view(file: &[u8]) -> GroupView<'_>
 }
 
 impl<'a> GroupView<'a> {
-    /// The first entry with this name, each field a slice of the file.
+    /// Returns the first entry with this name, or `None` if there is none. The call does not allocate.
     pub fn entry(&self, name: &[u8]) -> Option<GroupEntry<'a>>
         ensures { option_map group_fields result ≡ entry_named is_group self.now name.now }
     {
         group_entry(find_line(Kind::Group, self.file, name)?)
     }
 
-    /// The GID of the first entry with this name.
+    /// Returns the GID of the first entry with this name, or `None` if there is none. The call does not allocate.
     pub fn gid_of(&self, name: &[u8]) -> Option<u32>
         ensures value { result ≡ id_named is_group self.now name.now }
         ensures small { IfSome result (λ id. id ≤ 4294967294) }
@@ -92,8 +97,9 @@ impl<'a> GroupView<'a> {
         find_id(Kind::Group, self.file, name)
     }
 
-    /// The name of the first entry that counts, has this GID, and has another name than `but`. Of two
-    /// entries with one name the first counts.
+    /// Returns the name of the first entry that has this GID and a name other than `but`, or `None` if there is none.
+    ///
+    /// Of two entries with one name only the first counts. The call does not allocate.
     pub fn holder(&self, id: u32, but: &[u8]) -> Option<&'a [u8]>
         ensures { option_map (λ name. name.now) result ≡ holder_of is_group self.now id but.now }
     {
@@ -101,7 +107,7 @@ impl<'a> GroupView<'a> {
     }
 }
 
-/// The entries of /etc/shadow (shadow(5)). Clauses see the bytes of the file.
+/// A view of /etc/shadow by its entries (shadow(5)). In contracts, a value is the list of the bytes of the file.
 #[derive(Drop)]
 pub struct ShadowView<'a> {
     file: &'a [u8],
@@ -115,7 +121,8 @@ impl<'a> Model for ShadowView<'a> {
     ghost view = { λ v. v.file.now };
 }
 
-/// The entries of a text of /etc/shadow.
+/// Returns a view of a text of /etc/shadow. The call accepts any text, since lines that are not entries are passed
+/// over. The call does not allocate.
 pub fn shadow_view(file: &[u8]) -> ShadowView<'_>
     ensures { result ≡ file.now }
 {
@@ -123,7 +130,7 @@ pub fn shadow_view(file: &[u8]) -> ShadowView<'_>
 }
 
 impl<'a> ShadowView<'a> {
-    /// The first entry with this name, each field a slice of the file.
+    /// Returns the first entry with this name, or `None` if there is none. The call does not allocate.
     pub fn entry(&self, name: &[u8]) -> Option<ShadowEntry<'a>>
         ensures { option_map shadow_fields result ≡ entry_named is_shadow self.now name.now }
     {

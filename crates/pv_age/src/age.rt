@@ -6,23 +6,40 @@ use crate::age_fault::AgeFault;
 use crate::stamps::{StampSet, stamps_of};
 use crate::sum::micros_of;
 
-/// The letters that stand for a list where an age has none.
+/// The timestamp letters of an age that lists none: all but `C`, the change time of directories.
 const DEFAULT_LETTERS: &[u8] = b"abcmABM";
 
-/// An age by which objects are cleaned up (tmpfiles.d(5), Age).
+/// An age by which objects are cleaned up (tmpfiles.d(5), "Age").
 #[derive(Clone, Copy, PartialEq, Eq)]
 pub struct Age {
-    /// The age in microseconds. By the age 0 every object is old.
+    /// The time span in microseconds. By the age 0 every object is old, whatever its timestamps are.
     pub micros: u64,
-    /// The timestamps that it looks at.
+    /// The timestamps that decide: an object is old if each of them is older than the time span.
     pub by: StampSet,
-    /// Whether what stands directly in the directory is spared.
+    /// Whether the mark `~` was given: what is directly in the directory is spared, and only what is deeper is
+    /// cleaned.
     pub spare_first: bool,
 }
 
-/// Reads an age (tmpfiles.d(5), "Age"). The text begins with an optional `~`, which spares the first level. An optional
-/// list of timestamp letters follows, ended by `:`. Then come one or more decimal numbers with units, which are added.
-/// A number without a unit counts seconds. The answer is the age, or the first fault in the order of `AgeFault`.
+/// Reads an age (tmpfiles.d(5), "Age"), such as `10d`, `~1w` or `mC:12h30min`.
+///
+/// The text has these parts, in this order:
+/// - An optional `~`, which spares the first level: what is directly in the directory.
+/// - An optional list of timestamp letters (`a`, `b`, `c`, `m`, `A`, `B`, `C`, `M`), ended by the first `:`. Without
+///   a list the letters are `abcmABM`.
+/// - One or more decimal numbers, each with its unit. They are added. A number without a unit counts seconds.
+///
+/// The units are `us`, `usec`, `ms`, `msec`, `s`, `sec`, `second`, `seconds`, `m`, `min`, `minute`, `minutes`, `h`,
+/// `hr`, `hour`, `hours`, `d`, `day`, `days`, `w`, `week` and `weeks`.
+///
+/// The list of letters is checked first. Then each number is checked, its unit and the sum so far. The answer is the
+/// age, or the first error:
+/// - `BadStampLetter`: the list before the `:` is empty, or a byte in it is not one of the letters.
+/// - `BadNumber`: where a number must begin, there is no digit. A text without any number gives this error too.
+/// - `BadUnit`: the letters after a number are not a unit.
+/// - `Overflow`: a number with its unit, or the sum so far, is 2^64 microseconds or more.
+///
+/// For example, `parse_age(b"~10d")` gives 864,000,000,000 microseconds, the timestamps `abcmABM`, and `spare_first`.
 pub fn parse_age(text: &[u8]) -> Result<Age, AgeFault>
     ensures { result ≡ age_of text.now }
 {
@@ -32,7 +49,7 @@ pub fn parse_age(text: &[u8]) -> Result<Age, AgeFault>
     }
 }
 
-/// The age that a text without its mark spells.
+/// Reads an age whose mark `~` was already read, or is absent.
 fn age_with(spare_first: bool, text: &[u8]) -> Result<Age, AgeFault>
     ensures { result ≡ age_with spare_first text.now }
 {
@@ -49,7 +66,7 @@ fn age_with(spare_first: bool, text: &[u8]) -> Result<Age, AgeFault>
     })
 }
 
-/// The place of the first colon.
+/// Returns the index of the first colon, if there is one.
 fn colon_at(text: &[u8]) -> Option<usize>
     ensures place { result ≡ position (λ b. b == 58) text.now }
     ensures within { IfSome result (λ at. at < length text.now) }

@@ -1,20 +1,20 @@
-//! Why a text is no age.
+//! Why a text is not an age.
 use thiserror::Error;
 
-/// Why a text is no age. The list of timestamps is checked first, then pair by pair the number, its unit
+/// Why a text is not an age. The list of timestamp letters is checked first, then pair by pair the number, its unit
 /// and the sum so far.
 #[derive(Clone, Copy, Debug, PartialEq, Eq, Error)]
 pub enum AgeFault {
-    /// The list of timestamps has no letter, or one that stands for no timestamp.
+    /// The list of timestamp letters before the `:` is empty, or a byte in it is not such a letter.
     #[error("BadStampLetter")]
     BadStampLetter,
-    /// No digit stands where a number must begin.
+    /// Where a number must begin, there is no digit. A text without any number gives this error too.
     #[error("BadNumber")]
     BadNumber,
-    /// The letters after a number are no unit.
+    /// The letters after a number are not a unit.
     #[error("BadUnit")]
     BadUnit,
-    /// The microseconds do not fit 64 bits.
+    /// A number with its unit, or the sum so far, does not fit into 64 bits as microseconds.
     #[error("Overflow")]
     Overflow,
 }

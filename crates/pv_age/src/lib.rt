@@ -1,4 +1,7 @@
-//! Ages of tmpfiles.d(5): how they are read, and which objects are old by them.
+//! Ages of tmpfiles.d(5): reads the text of the field "Age".
+//!
+//! An age is a time span, the timestamps that it looks at, and whether the first level of a directory is spared.
+//! Whether an object is old by an age is decided in pv_table.
 #![tactic(auto)]
 
 mod age;

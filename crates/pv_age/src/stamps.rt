@@ -6,8 +6,10 @@ ghost use Rattle.pv_age.specs.Stamps.{letter_bit, stamps_of, stamps_with};
 use crate::age_fault::AgeFault;
 use bitflags::{Flag, Flags, bitflag_items};
 
-/// The timestamps that an age looks at, one for each letter (tmpfiles.d(5), "Age"). They are access, birth, change and
-/// modify. A lower case letter is for objects that are not directories, an upper case letter for directories.
+/// A set of the timestamps that an age looks at, one for each letter (tmpfiles.d(5), "Age").
+///
+/// The letters are `a` (access), `b` (birth), `c` (change) and `m` (modify). A lower case letter is for objects that
+/// are not directories, an upper case letter for directories.
 #[derive(Clone, Copy, PartialEq, Eq)]
 pub struct StampSet(u8);
 
@@ -46,7 +48,9 @@ impl Flags for StampSet {
     }
 }
 
-/// The timestamps that a list of letters chooses. A repeated letter has no further effect.
+/// Reads a list of timestamp letters as a set. A repeated letter has no further effect.
+///
+/// The error is `BadStampLetter` if the list is empty or has a byte that is not such a letter.
 pub(crate) fn stamps_of(list: &[u8]) -> Result<StampSet, AgeFault>
     ensures { result ≡ stamps_of list.now }
 {
@@ -61,7 +65,7 @@ pub(crate) fn stamps_of(list: &[u8]) -> Result<StampSet, AgeFault>
     Ok(stamps)
 }
 
-/// The timestamp of a letter.
+/// Returns the timestamp of a letter, if the letter has one.
 fn stamp_of(letter: u8) -> Option<StampSet>
     ensures { option_map (λ s. s.0) result ≡ letter_bit letter }
 {

@@ -10,14 +10,14 @@ use crate::age_fault::AgeFault;
 use crate::unit::unit_micros;
 use std::str;
 
-/// A number with its unit at the beginning of a text.
+/// A number with its unit at the beginning of a text: its microseconds, and how many bytes it has.
 #[derive(Clone, Copy)]
 struct Pair {
     micros: u64,
     length: usize,
 }
 
-/// The microseconds of one or more numbers with units.
+/// Adds up one or more numbers with units, in microseconds.
 pub(crate) fn micros_of(text: &[u8]) -> Result<u64, AgeFault>
     ensures { result ≡ micros_of text.now }
 {
@@ -34,7 +34,7 @@ pub(crate) fn micros_of(text: &[u8]) -> Result<u64, AgeFault>
     Ok(total)
 }
 
-/// The number and the unit that a text begins with.
+/// Reads the number and the unit that a text begins with.
 fn first_pair(text: &[u8]) -> Result<Pair, AgeFault>
     ensures value { MatchResult result (λ p. pair_micros text.now ≡ Ok p.micros)
         (λ fault. pair_micros text.now ≡ Err fault) }
@@ -55,7 +55,7 @@ fn first_pair(text: &[u8]) -> Result<Pair, AgeFault>
     })
 }
 
-/// How many digits a text begins with.
+/// Counts the digits that a text begins with.
 fn digit_count(text: &[u8]) -> usize
     ensures value { result ≡ prefix_len is_ascii_digit text.now }
     ensures within { result ≤ length text.now }
@@ -63,7 +63,7 @@ fn digit_count(text: &[u8]) -> usize
     text.iter().take_while(|byte| byte.is_ascii_digit()).count()
 }
 
-/// How many letters a text begins with.
+/// Counts the letters that a text begins with.
 fn letter_count(text: &[u8]) -> usize
     ensures value { result ≡ prefix_len is_ascii_alphabetic text.now }
     ensures within { result ≤ length text.now }
@@ -73,7 +73,7 @@ fn letter_count(text: &[u8]) -> usize
         .count()
 }
 
-/// What follows the first `count` bytes of a text.
+/// Returns what follows the first `count` bytes of a text.
 fn behind(text: &[u8], count: usize) -> &[u8]
     requires { count ≤ length text.now }
     ensures { result.now ≡ drop count text.now }
@@ -81,7 +81,7 @@ fn behind(text: &[u8], count: usize) -> &[u8]
     &text[count..]
 }
 
-/// The number that digits spell. Zeros may stand first.
+/// Reads a decimal number, which may begin with zeros. A number of 2^64 or more is an `Overflow`.
 fn number_of(digits: &[u8]) -> Result<u64, AgeFault>
     requires digits { all_ascii_digits digits.now ≡ true }
     requires some { 0 < length digits.now }

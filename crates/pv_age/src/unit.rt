@@ -27,7 +27,7 @@ const ALL_UNITS: [Unit; 7] = [
 ];
 
 impl Unit {
-    /// Whether a text is a name of the unit. No text at all stands for the second.
+    /// Returns whether a text is a name of the unit. The empty text stands for the second.
     fn is_called(self, name: &[u8]) -> bool
         ensures { result ≡ is_called name.now self }
     {
@@ -46,7 +46,7 @@ impl Unit {
         }
     }
 
-    /// How many microseconds the unit has.
+    /// Returns how many microseconds the unit has.
     fn micros(self) -> u64
         ensures value { result ≡ micros_in self }
         ensures positive { 0 < result }
@@ -63,21 +63,21 @@ impl Unit {
     }
 }
 
-/// Whether a text is one of two names.
+/// Returns whether a text is one of two names.
 fn is_either(text: &[u8], name: &[u8], other: &[u8]) -> bool
     ensures { result ≡ (bytes_eq text.now name.now || bytes_eq text.now other.now) }
 {
     text == name || text == other
 }
 
-/// The unit with a name.
+/// Returns the unit with a name, if there is one.
 fn unit_named(name: &[u8]) -> Option<Unit>
     ensures { result ≡ unit_named name.now }
 {
     ALL_UNITS.iter().copied().find(|unit| unit.is_called(name))
 }
 
-/// How many microseconds the unit with a name has.
+/// Returns how many microseconds the unit with a name has, if there is such a unit.
 pub(crate) fn unit_micros(name: &[u8]) -> Option<u64>
     ensures value { result ≡ unit_micros name.now }
     ensures positive { IfSome result (λ micros. 0 < micros) }

@@ -8,7 +8,7 @@ use Rattle.pv_walk.proofs.OperationLaws.{object_states-same}
 use Rattle.pv_lines.specs.declared.line.Line.{Line}
 use Rattle.pv_lines.specs.Lines.{IsLine}
 use Rattle.pv_table.specs.Active.{are_distinct}
-use Rattle.pv_table.specs.Created.{created, IsQuiet}
+use Rattle.pv_table.specs.Created.{created, RefusesNoLine}
 use Rattle.pv_table.specs.Repeatable.{IsRepeatable}
 use Rattle.pv_laws.specs.Copying.{StoppedRuns}
 use Rattle.pv_laws.proofs.StateStops.{run_recovers}
@@ -20,11 +20,11 @@ module _ (lines : List Line) (are : AllByRecursion IsLine lines) (distinct : are
   any_moment now later t q plain = object_states-same (places (created lines now t)) (places (created lines later t)) q (created_same lines now later t t (λ p. refl) q)
 
   -- a complete run from the first of these trees refuses no line at some moment
-  quiet_first : (moments : List ℕ) (later : ℕ) (t u : Files) → StoppedRuns lines moments t u → IsQuiet lines later u → (now : ℕ) × IsQuiet lines now t
-  quiet_first [] later t u same quiet = (later, subst (IsQuiet lines later) same quiet)
+  quiet_first : (moments : List ℕ) (later : ℕ) (t u : Files) → StoppedRuns lines moments t u → RefusesNoLine lines later u → (now : ℕ) × RefusesNoLine lines now t
+  quiet_first [] later t u same quiet = (later, subst (RefusesNoLine lines later) same quiet)
   quiet_first (now ∷ moments) later t u runs quiet = (now, runs.0)
 
-  pub again_recovered : (moments : List ℕ) (now later : ℕ) (t u : Files) → IsTree t → IsTree u → StoppedRuns lines moments t u → IsQuiet lines later u → Same (created lines later u) (created lines now t)
+  pub again_recovered : (moments : List ℕ) (now later : ℕ) (t u : Files) → IsTree t → IsTree u → StoppedRuns lines moments t u → RefusesNoLine lines later u → Same (created lines later u) (created lines now t)
   again_recovered [] now later t u tree there same again = subst (λ (v : Files). Same (created lines later v) (created lines now t)) (sym same) (any_moment later now t)
   again_recovered (first ∷ moments) now later t u tree there runs again = λ q plain.
       again_recovered moments next.0 later v u runs.1.1 there runs.1.3 again q plain
@@ -34,7 +34,7 @@ module _ (lines : List Line) (are : AllByRecursion IsLine lines) (distinct : are
       v : Files
       v = runs.1.0
 
-      next : (m : ℕ) × IsQuiet lines m v
+      next : (m : ℕ) × RefusesNoLine lines m v
       next = quiet_first moments later v u runs.1.3 again
 
 -- one more run that is cut short

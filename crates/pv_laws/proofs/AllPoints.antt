@@ -27,7 +27,7 @@ use Rattle.pv_table.specs.declared.reason.Reason.TheVariants as reason
 use Rattle.pv_table.specs.Active.{Listed, ordered, in_create_order}
 use Rattle.pv_table.specs.Asked.{operations}
 use Rattle.pv_table.specs.ActionTable.{action_of}
-use Rattle.pv_table.specs.Created.{by_turn, by_line, created, IsQuiet}
+use Rattle.pv_table.specs.Created.{by_turn, by_line, created, RefusesNoLine}
 use Rattle.pv_steps.specs.Doing.{after_each, one_is_refused}
 use Rattle.pv_table.specs.Effects.{turned, prepare, carried_out, turn_after, turns}
 use Rattle.pv_table.specs.Pointwise.{ObjectStates, view, parent_object_state, after_turn, at_made, point, point_paths, pointwise_after, state}
@@ -247,7 +247,7 @@ points_after now (line ∷ lines) s t are shape quiet agree =
     ∙ sym (one.point s agree q plain))
 
 -- where none of them copies what lies above its path
-module _ (lines : List Line) (safe : AllByRecursion IsSafe (in_create_order lines)) (now : ℕ) (s : ObjectStates) (t : Files) (tree : IsTree t) (quiet : IsQuiet lines now t) (agree : Agree s t) where
+module _ (lines : List Line) (safe : AllByRecursion IsSafe (in_create_order lines)) (now : ℕ) (s : ObjectStates) (t : Files) (tree : IsTree t) (quiet : RefusesNoLine lines now t) (agree : Agree s t) where
   -- after the first lines
   pub state_after : (k : ℕ) → Agree (state lines k s) (after_each (by_line now) (take k (in_create_order lines)) t)
   state_after k = points_after now (take k (in_create_order lines)) s t (all_take IsSafe k (in_create_order lines) safe) (tree_shaped (places t) tree) (quiet_front now k (in_create_order lines) t quiet) agree

@@ -23,7 +23,7 @@ use Rattle.pv_table.specs.declared.action.Action.{Action}
 use Rattle.pv_table.specs.declared.action.Action.TheVariants.{Copy}
 use Rattle.pv_table.specs.Active.{in_create_order}
 use Rattle.pv_table.specs.ActionTable.{action_of}
-use Rattle.pv_table.specs.Created.{by_turn, by_line, created, IsQuiet}
+use Rattle.pv_table.specs.Created.{by_turn, by_line, created, RefusesNoLine}
 use Rattle.pv_steps.specs.Doing.{after_each, one_is_refused}
 use Rattle.pv_table.specs.Effects.{carried_out}
 use Rattle.pv_table.specs.Pointwise.{ObjectStates, view, after_turn, state}
@@ -174,7 +174,7 @@ module _ (now : ℕ) where
 
 -- ---- the run
 
-module _ (lines : List Line) (now : ℕ) (s : ObjectStates) (t u : Files) (tree : IsTree t) (quiet : IsQuiet lines now t) (agree : Agree s t) where
+module _ (lines : List Line) (now : ℕ) (s : ObjectStates) (t u : Files) (tree : IsTree t) (quiet : RefusesNoLine lines now t) (agree : Agree s t) where
   safe_on_the_way : AllByRecursion IsSafe (in_create_order lines) → PartwayOf (in_create_order lines) now t u → IsOnTheWay lines s u
   safe_on_the_way safe way = by (partway_at now (in_create_order lines) t u way)
     where

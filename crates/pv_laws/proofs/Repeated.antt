@@ -13,7 +13,7 @@ use Rattle.pv_walk.specs.declared.operation.Operation.TheVariants.{Make, Erase}
 use Rattle.pv_walk.specs.declared.operation.Test.{Test}
 use Rattle.pv_walk.specs.Dividing.{parts_of, parts}
 use Rattle.pv_walk.specs.Reasons as reasons
-use Rattle.pv_walk.specs.Reasons.{is_adjusting, is_append, is_masked, gives_base, is_make, is_renewal, is_erasure, is_idle, has_append, has_mixed_mask, makes_late, has_late_make}
+use Rattle.pv_walk.specs.Reasons.{is_adjusting, is_append, is_masked, gives_base, is_make, is_renewal, is_erasure, sets_nothing, has_append, has_mixed_mask, makes_late, has_late_make}
 use Rattle.pv_walk.proofs.Dividing.{repeatable-parts}
 use Rattle.pv_walk.proofs.EditLaws.{path_cases}
 use Rattle.pv_lines.specs.declared.line.Line.{Line}
@@ -238,7 +238,7 @@ module _ (q : Path) where
       ∙ ap (λ b. b && list_all is_adjustment (listed_asked lines)) (adjuster_adjusts line.1 h.0)
       ∙ adjusters_adjust lines h.1
 
-  make_not_idle : (x : Operation) → is_make x ≡ true → is_adjusting is_idle x ≡ false
+  make_not_idle : (x : Operation) → is_make x ≡ true → is_adjusting sets_nothing x ≡ false
   make_not_idle x h = grind arith
 
   -- no make comes late

@@ -18,7 +18,7 @@ use Rattle.pv_walk.specs.declared.operation.Operation.TheVariants.{Make, Renew, 
 use Rattle.pv_walk.specs.Masks.{with_masked}
 use Rattle.pv_walk.specs.Nodes.{object_state_of, is_file, is_link, same_kind}
 use Rattle.pv_walk.specs.Operations.{admits, changed, run}
-use Rattle.pv_walk.specs.Reasons.{is_adjusting, is_masked, gives_base, is_make, is_renewal, is_erasure, is_idle, has_append, has_mixed_mask, makes_late, IsRepeatable}
+use Rattle.pv_walk.specs.Reasons.{is_adjusting, is_masked, gives_base, is_make, is_renewal, is_erasure, sets_nothing, has_append, has_mixed_mask, makes_late, IsRepeatable}
 use Rattle.pv_walk.proofs.Absorbing.{with_masked-own}
 use Rattle.pv_walk.proofs.OperationLaws.{run-append}
 use Rattle.pv_lines.specs.declared.line.Argument.{Argument}
@@ -181,7 +181,7 @@ adjustments_timely (Make b ∷ xs) h = impossible h
 adjustments_timely (Renew test b ∷ xs) h = impossible h
 adjustments_timely (Erase ∷ xs) h = impossible h
 adjustments_timely (Apply guard change ∷ xs) h =
-    elim (is_idle change) as (λ b. cond b (makes_late xs) (list_any is_make xs) ≡ false) [ true ↦ adjustments_timely xs h | false ↦ adjustments_make_none xs h ]
+    elim (sets_nothing change) as (λ b. cond b (makes_late xs) (list_any is_make xs) ≡ false) [ true ↦ adjustments_timely xs h | false ↦ adjustments_make_none xs h ]
 
 -- nothing stays nothing
 pub adjusted_none : (xs : List Operation) → list_all is_adjustment xs ≡ true → run xs None ≡ None

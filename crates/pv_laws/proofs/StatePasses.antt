@@ -35,7 +35,7 @@ use Rattle.pv_table.specs.declared.reason.Reason.TheVariants as reason
 use Rattle.pv_table.specs.Active.{are_distinct, Listed, is_adjusting_line, ordered, in_create_order}
 use Rattle.pv_table.specs.Asked.{first_of, clears_below, operations, operations_of}
 use Rattle.pv_table.specs.ActionTable.{action_of}
-use Rattle.pv_table.specs.Created.{by_turn, by_line, IsQuiet}
+use Rattle.pv_table.specs.Created.{by_turn, by_line, RefusesNoLine}
 use Rattle.pv_steps.specs.Doing.{after_each, one_is_refused}
 use Rattle.pv_table.specs.Pointwise.{ObjectStates, parent_object_state, pointwise_after}
 use Rattle.pv_table.specs.Reaching.{path_in, is_creating, governs}
@@ -248,7 +248,7 @@ module _ (lines : List Line) (are : AllByRecursion IsLine lines) (distinct : are
   free_all [] h = tt
   free_all (l ∷ ls) h = (free_each l h.0 ls h.1, free_all ls h.1)
 
-  module _ (now : ℕ) (t u : Files) (tree : IsTree t) (there : IsTree u) (quiet : IsQuiet lines now t) (way : PartwayOf (in_create_order lines) now t u) (r : ObjectStates) (agree : Agree r u) where
+  module _ (now : ℕ) (t u : Files) (tree : IsTree t) (there : IsTree u) (quiet : RefusesNoLine lines now t) (way : PartwayOf (in_create_order lines) now t u) (r : ObjectStates) (agree : Agree r u) where
     pub start_shaped : IsShaped (fin.get r)
     start_shaped = shape_same (object_states_of (places u)) (fin.get r) agree (tree_shaped (places u) there)
 

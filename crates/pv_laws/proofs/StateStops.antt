@@ -26,7 +26,7 @@ use Rattle.pv_table.specs.declared.action.Action.TheVariants.{Create, Copy, Adju
 use Rattle.pv_table.specs.Active.{are_distinct, Listed, ordered, in_create_order}
 use Rattle.pv_table.specs.Asked.{operations, operations_of}
 use Rattle.pv_table.specs.ActionTable.{action_of}
-use Rattle.pv_table.specs.Created.{by_line, created, IsQuiet}
+use Rattle.pv_table.specs.Created.{by_line, created, RefusesNoLine}
 use Rattle.pv_steps.specs.Doing.{after_each, one_is_refused}
 use Rattle.pv_table.specs.Pointwise.{ObjectStates, after_turn, pointwise_after, state, tabulated}
 use Rattle.pv_table.specs.Reaching.{path_in, governs}
@@ -114,7 +114,7 @@ module _ (p q : Path) (plain : has_staging q ≡ false) (under : is_prefix p q �
 -- ---- a path at or below that of a line that copies what is there
 
 module _ (lines : List Line) (are : AllByRecursion IsLine lines) (distinct : are_distinct lines ≡ true) (repeatable : IsRepeatable lines) (now : ℕ) (t u : Files) (tree : IsTree t) (there : IsTree u)
-    (quiet : IsQuiet lines now t) (way : PartwayOf (in_create_order lines) now t u) (r : ObjectStates) (agree : Agree r u) where
+    (quiet : RefusesNoLine lines now t) (way : PartwayOf (in_create_order lines) now t u) (r : ObjectStates) (agree : Agree r u) where
   abbrev Known : Listed → Type 0
   Known l = IsKnown lines are distinct repeatable l
 
@@ -380,7 +380,7 @@ module _ (lines : List Line) (are : AllByRecursion IsLine lines) (distinct : are
   states_end s same q plain = whole_state q plain ∙ sym (state_whole lines (all_safe lines are repeatable) now s t tree quiet same q plain)
 
   -- so does a complete run that refuses no line
-  state_recovers : (later : ℕ) → IsQuiet lines later u → Same (created lines later u) (created lines now t)
+  state_recovers : (later : ℕ) → RefusesNoLine lines later u → Same (created lines later u) (created lines now t)
   state_recovers later again q plain = object_states-same (places (created lines later u)) (places (created lines now t)) q (
       sym (state_whole lines (all_safe lines are repeatable) later r u there again agree q plain) ∙ whole_state q plain)
 
@@ -393,6 +393,6 @@ map_of t = (
 
 -- a complete run from there leaves what one run that was not cut short leaves
 pub run_recovers : (lines : List Line) → AllByRecursion IsLine lines → are_distinct lines ≡ true → IsRepeatable lines → (now later : ℕ) (t u : Files) → IsTree t → IsTree u
-    → IsQuiet lines now t → IsQuiet lines later u → PartwayOf (in_create_order lines) now t u → Same (created lines later u) (created lines now t)
+    → RefusesNoLine lines now t → RefusesNoLine lines later u → PartwayOf (in_create_order lines) now t u → Same (created lines later u) (created lines now t)
 run_recovers lines are distinct repeatable now later t u tree there quiet again way =
     let r = map_of u in state_recovers lines are distinct repeatable now t u tree there quiet way r.0 r.1 later again

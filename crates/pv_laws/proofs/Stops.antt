@@ -29,7 +29,7 @@ use Rattle.pv_table.specs.declared.action.Making.{Making}
 use Rattle.pv_table.specs.Active.{are_distinct, Listed, placed, is_adjusting_line, in_create_order}
 use Rattle.pv_table.specs.Asked.{first_of, operations, operations_of}
 use Rattle.pv_table.specs.ActionTable.{action_of}
-use Rattle.pv_table.specs.Created.{by_line, created, IsQuiet}
+use Rattle.pv_table.specs.Created.{by_line, created, RefusesNoLine}
 use Rattle.pv_steps.specs.Doing.{one_is_refused}
 use Rattle.pv_table.specs.Reaching.{path_in, is_creating}
 use Rattle.pv_table.specs.Repeatable.{IsRepeatable}
@@ -237,17 +237,17 @@ module _ (lines : List Line) (are : AllByRecursion IsLine lines) (no_copies : Al
   in_order_plain = all_in_order IsPlain lines (all_plain lines are no_copies)
 
   -- what a complete run that refuses nothing leaves at a path
-  pub created_point : (now : ℕ) (t : Files) → IsTree t → IsQuiet lines now t → (q : Path) → has_staging q ≡ false
+  pub created_point : (now : ℕ) (t : Files) → IsTree t → RefusesNoLine lines now t → (q : Path) → has_staging q ≡ false
       → object_states_of (places (created lines now t)) q ≡ run (operations_of (in_create_order lines) q) (object_states_of (places t) q)
   created_point now t tree quiet q plain = lines_point now (in_create_order lines) t in_order_plain (tree_shaped (places t) tree) quiet q plain
 
   -- what it has left on its way is a piece at each path
-  pub partway_of_lines : (now : ℕ) (t u : Files) → IsTree t → IsQuiet lines now t → PartwayOf (in_create_order lines) now t u → (q : Path) → has_staging q ≡ false
+  pub partway_of_lines : (now : ℕ) (t u : Files) → IsTree t → RefusesNoLine lines now t → PartwayOf (in_create_order lines) now t u → (q : Path) → has_staging q ≡ false
       → IsPiece (in_create_order lines) q (object_states_of (places t) q) (object_states_of (places u) q)
   partway_of_lines now t u tree quiet way = partway_piece (in_create_order lines) now t u in_order_plain (tree_shaped (places t) tree) quiet way
 
   -- from pieces a complete run leaves what it leaves from the start
-  module _ (distinct : are_distinct lines ≡ true) (repeatable : IsRepeatable lines) (now later : ℕ) (t u : Files) (tree : IsTree t) (there : IsTree u) (quiet : IsQuiet lines now t) (again : IsQuiet lines later u) where
+  module _ (distinct : are_distinct lines ≡ true) (repeatable : IsRepeatable lines) (now later : ℕ) (t u : Files) (tree : IsTree t) (there : IsTree u) (quiet : RefusesNoLine lines now t) (again : RefusesNoLine lines later u) where
     pub pieces_recover : ((q : Path) → has_staging q ≡ false → IsPiece (in_create_order lines) q (object_states_of (places t) q) (object_states_of (places u) q)) → Same (created lines later u) (created lines now t)
     pieces_recover pieces q plain = object_states-same (places (created lines later u)) (places (created lines now t)) q (
         same_unnamed (object_states_of (places (created lines later u))) (object_states_of (places (created lines now t))) (left later u there) (left now t tree) q plain (λ named.

@@ -11,12 +11,12 @@ use Rattle.pv_table.specs.ActionTable.{action_of}
 use Rattle.pv_table.specs.Reaching.{path_in}
 use Rattle.pv_laws.specs.CarryingOut.{IsCarriedOut}
 
--- a line puts an object at its path, made or copied
+-- A line makes or copies an object.
 abbrev pub PutsObject : Line → Type 0
 PutsObject line = ((making : Making) × (action_of line ≡ Create making)) ⊎ ((copying : Copying) × (action_of line ≡ Copy copying))
 
--- a run of lines that began with one tree has left another: along the path of each line that puts an object there, was
--- refused at no turn and found what it copies, nothing stands at the staging names
+-- After a run, nothing is left at the staging names along the path of a line that makes or copies. This holds of each
+-- such line that was refused at no path, and whose source, if it copies, existed.
 abbrev pub LeavesNoStagingName : List Line → ℕ → Files → Files → Type 0
 LeavesNoStagingName lines now t u = (line : Line) (place : Path) → PutsObject line → IsCarriedOut line (in_create_order lines) now t →
     is_prefix place (path_in line.path) ≡ true → place ≢ [] → IsAbsentIn (places u) (staging_of place)

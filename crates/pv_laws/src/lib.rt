@@ -1,5 +1,7 @@
-//! Laws of what lines of configuration leave (tmpfiles.d(5)), over the definitions alone: at each path by itself, and
-//! after a run that was cut short.
+//! Laws of what configuration lines leave in the create phase (tmpfiles.d(5)), over the definitions alone.
+//!
+//! They say what a run leaves at each path, and that the next run completes a run that was stopped. There is nothing
+//! here to call: the laws are for proofs.
 #![tactic(auto)]
 
 mod laws;
@@ -11,7 +13,7 @@ pub use laws::{
     each_path_by_itself_is_what_lines_without_reasons_leave, lines_leave_what_they_ask_for,
     lines_that_are_apart_commute, messages_and_trees_need_no_moment,
     nothing_is_said_against_lines_without_reasons, on_the_way_each_path_is_between_two_lines,
-    quiet_needs_no_moment, runs_cut_short_again_and_again_recover,
+    refusing_no_line_needs_no_moment, runs_cut_short_again_and_again_recover,
     states_after_a_stop_end_as_from_the_start, what_is_on_the_way_is_a_piece,
     what_lines_copy_stays, what_no_line_governs_stays,
 };

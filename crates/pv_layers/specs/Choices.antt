@@ -1,5 +1,5 @@
--- The files that a run reads as its configuration, and what it says about the others (tmpfiles.d(5),
--- sysusers.d(5)).
+-- The files that a run reads as its configuration, and the messages about the others (tmpfiles.d(5), sysusers.d(5);
+-- FILE arguments: systemd-tmpfiles(8), systemd-sysusers(8)).
 use Rattle.std.specs.Prelude.{◌≡◌, ℕ, Bool, true, false, ◌||◌, List, [], ◌∷◌, ◌++◌, codes, Option, Some, None, if◌then◌else◌}
 use Rattle.std.specs.Result.{result_ok}
 use Rattle.std.specs.List.{list_any}
@@ -14,46 +14,50 @@ use Rattle.pv_layers.specs.declared.found.Found.TheVariants.{Missing, Masked, Od
 use Rattle.pv_layers.specs.Folders.{folders, conf_names, found_at, found_in}
 use Rattle.pv_text.specs.declared.tool.Tool.{Tool}
 
--- files in the order in which they are read, whether a word has no file, and what is said, in order
+-- What is chosen: the files in the order in which they are read, whether a FILE argument was not found, and the
+-- messages in order.
 pub record Choice : Type 0 where
   pub files : List Path
   pub missing : Bool
   pub messages : List (List ℕ)
 
--- no file, and nothing said
+-- No file and no message.
 abbrev pub nothing : Choice
 nothing = record { files = []; missing = false; messages = [] }
 
--- one file alone
+-- One file and no message.
 abbrev pub one_file : Path → Choice
 one_file path = record { files = path ∷ []; missing = false; messages = [] }
 
--- a choice, and then another
+-- Two choices, one after the other: the files and the messages of the first come first. `missing` is true if it is
+-- true in either.
 abbrev pub followed : Choice → Choice → Choice
 followed a b = record { files = a.files ++ b.files; missing = a.missing || b.missing; messages = a.messages ++ b.messages }
 
--- a choice is made: its files come after those chosen before, a missing word stays missing, and what it
--- says comes after what was said
+-- A choice is added to what was chosen before. Its files follow the earlier files, and its messages follow the
+-- earlier messages. `missing` is true if it was before, or is in this choice.
 abbrev pub IsMade : Choice → Chosen → Chosen → List (List ℕ) → List (List ℕ) → Type 0
 IsMade choice old new old_messages new_messages =
     (new.files ≡ old.files ++ choice.files) × (new.missing ≡ (old.missing || choice.missing)) × (new_messages ≡ old_messages ++ choice.messages)
 
--- ---- without words
+-- ---- without FILE arguments
 
--- a regular file is read, and what is neither that nor a mask is named
+-- What is chosen for a name in the folders. A regular file is read. An object that is neither a regular file nor a
+-- mask gets the message `PATH: not a regular file`. For a mask, or if there is nothing, nothing is read.
 abbrev pub choice_of : Found → Choice
 choice_of (Regular path) = one_file path
 choice_of (Odd path) = record { files = []; missing = false; messages = (printed_path path ++ codes ": not a regular file") ∷ [] }
 choice_of _ = nothing
 
--- the choices of names in some folders, in order
+-- What is chosen for some names in the folders, in the order of the names.
 abbrev pub choice_of_names : Files → List Path → List (List ℕ) → Choice
 choice_of_names files places [] = nothing
 choice_of_names files places (name ∷ names) = followed (choice_of (found_in files places name)) (choice_of_names files places names)
 
--- ---- with words
+-- ---- with FILE arguments
 
--- what a word stands for: a path where it begins with a slash, otherwise a name in the folders
+-- What a FILE argument stands for. If it begins with a slash, it is a path. Otherwise it is a name that is looked up
+-- in the folders. It counts as missing if it is neither a path nor a name.
 abbrev pub found_word : Files → List Path → List ℕ → Found
 found_word files places word =
     if begins_with_slash word then by_path (result_ok (path_of word))
@@ -64,18 +68,19 @@ found_word files places word =
     by_path (Some path) = found_at files path
     by_path None = Missing
 
--- a regular file is read, a mask is nothing, and else the word is not found
+-- What is chosen for a FILE argument. A regular file is read. For a mask nothing is read. Everything else counts as
+-- missing and gets the message `WORD: not found`.
 abbrev pub choice_of_word : List ℕ → Found → Choice
 choice_of_word word (Regular path) = one_file path
 choice_of_word word Masked = nothing
 choice_of_word word _ = record { files = []; missing = true; messages = (printed word ++ codes ": not found") ∷ [] }
 
--- a word after others; where it stood there before it is passed over
+-- What is chosen for a FILE argument after others. It is passed over if the same word was given before.
 abbrev pub choice_of_next : Files → List Path → List (List ℕ) → List ℕ → Choice
 choice_of_next files places before word =
     if list_any (λ w. same_bytes w word) before then nothing else choice_of_word word (found_word files places word)
 
--- the words in order, where some stood before them
+-- What is chosen for FILE arguments in order, after those in `before`.
 abbrev pub choice_of_words : Files → List Path → List (List ℕ) → List (List ℕ) → Choice
 choice_of_words files places before [] = nothing
 choice_of_words files places before (word ∷ words) =
@@ -83,7 +88,8 @@ choice_of_words files places before (word ∷ words) =
 
 -- ---- both
 
--- the configuration files that a tool reads of a tree, by its words, or else by what its folders hold
+-- What a tool reads as its configuration in a tree. If there are FILE arguments, they decide. Otherwise the folders
+-- do, with the names of their configuration files in byte order.
 abbrev pub chosen : Files → Tool → List (List ℕ) → Choice
 chosen files tool [] = choice_of_names files (folders tool) (conf_names files (folders tool))
 chosen files tool (word ∷ words) = choice_of_words files (folders tool) [] (word ∷ words)

@@ -5,21 +5,21 @@ use Rattle.pv_text.specs.declared.tool.Tool.TheVariants.{Tmpfiles}
 use Rattle.pv_layers.specs.Folders.{folders}
 use Rattle.pv_layers.specs.Inputs.{is_within}
 
--- the directory of what is set on this system
+-- The path `/etc`.
 abbrev pub etc : Path
 etc = codes "etc" ∷ []
 
--- the files of users and groups
+-- The files of users and groups.
 abbrev pub passwd_path : Path
 passwd_path = codes "etc" ∷ codes "passwd" ∷ []
 
 abbrev pub group_path : Path
 group_path = codes "etc" ∷ codes "group" ∷ []
 
--- the folders of configuration files, and the files of users and groups
+-- The folders of configuration files of systemd-tmpfiles, and the files of users and groups.
 abbrev pub inputs : List Path
 inputs = folders Tmpfiles ++ passwd_path ∷ group_path ∷ []
 
--- whether a path lies at or below one of them
+-- Whether a path is one of these, or below one.
 abbrev pub is_input : Path → Bool
 is_input path = is_within inputs path

@@ -1,4 +1,4 @@
-//! The choice of configuration files, from the folders or by file words (tmpfiles.d(5)).
+//! Chooses the configuration files: those in the folders, or those that words name (tmpfiles.d(5), sysusers.d(5)).
 ghost use Rattle.std.specs.Prelude.{◌≡◌, ◌∷◌, ◌++◌, [], ◌||◌, codes, IfOk, OnOk, OnErr};
 ghost use Rattle.pv_path.specs.Printing.{printed, printed_path};
 ghost use Rattle.pv_layers.specs.Folders.{conf_names, found_in};
@@ -16,13 +16,13 @@ use std::alloc::{AllocError, Global};
 /// The files that a run reads as its configuration.
 #[derive(Drop)]
 pub struct Chosen {
-    /// In the order in which they are read.
+    /// The paths of the files, in the order in which they are read.
     pub files: PathList,
-    /// Whether a file word was not found.
+    /// Whether a word was given for which no file was found.
     pub missing: bool,
 }
 
-/// Says that a path is no regular file.
+/// Adds the message that a path is not a regular file.
 fn say_odd(alloc: Global, path: &TreePath, messages: &mut Messages) -> Result<(), AllocError>
     ensures ok { let line = printed_path path.now ++ codes ": not a regular file" in
         OnOk result (messages.new ≡ messages.old ++ line ∷ []) }
@@ -33,7 +33,7 @@ fn say_odd(alloc: Global, path: &TreePath, messages: &mut Messages) -> Result<()
     messages.push(&line)
 }
 
-/// Says that a word is not found.
+/// Adds the message that a word is not found.
 fn say_missing(alloc: Global, word: &[u8], messages: &mut Messages) -> Result<(), AllocError>
     ensures ok { let line = printed word.now ++ codes ": not found" in
         OnOk result (messages.new ≡ messages.old ++ line ∷ []) }
@@ -44,7 +44,7 @@ fn say_missing(alloc: Global, word: &[u8], messages: &mut Messages) -> Result<()
     messages.push(&line)
 }
 
-/// Takes a file that a name stands for, or says that it is none.
+/// Adds the file that was found for a name, or the message that the object there is not a regular file.
 fn take_found(
     alloc: Global,
     found: Found,
@@ -62,7 +62,7 @@ fn take_found(
     }
 }
 
-/// Takes a file that a word stands for, or says that it is not found.
+/// Adds the file that was found for a word, or the message that the word is not found.
 fn take_word(
     alloc: Global,
     word: &[u8],
@@ -84,7 +84,7 @@ fn take_word(
     }
 }
 
-/// Takes the file that a name stands for in some folders.
+/// Adds the file that a name has in some folders.
 fn take_name<T: Tree>(
     alloc: Global,
     tree: &T,
@@ -101,7 +101,7 @@ fn take_name<T: Tree>(
     take_found(alloc, found, chosen, messages)
 }
 
-/// Takes the file that a word stands for.
+/// Adds the file that a word names.
 fn take_next<T: Tree>(
     alloc: Global,
     tree: &T,
@@ -118,7 +118,7 @@ fn take_next<T: Tree>(
     take_word(alloc, word.as_slice(), found, chosen, messages)
 }
 
-/// Takes the files that names stand for in some folders.
+/// Chooses the files that names have in some folders, in the order of the names.
 fn choose_names<T: Tree>(
     alloc: Global,
     tree: &T,
@@ -145,7 +145,8 @@ fn choose_names<T: Tree>(
     Ok(chosen)
 }
 
-/// Takes the files that words stand for, each word once.
+/// Chooses the files that words name, in the order of the words. If the same word is given again, it has no further
+/// effect.
 fn choose_words<T: Tree>(
     alloc: Global,
     tree: &T,
@@ -175,9 +176,25 @@ fn choose_words<T: Tree>(
     Ok(chosen)
 }
 
-/// The files that a tool reads as its configuration: those that the words name, or without words
-/// those that the tool's folders hold. What is no regular file and no mask is named in a message,
-/// and so is a word without a file.
+/// Chooses the files that a tool reads as its configuration, and adds messages about what it cannot read.
+///
+/// `names` are the words of the command line that name configuration files. Below they are called words.
+///
+/// Without words, the files are those whose names end in `.conf` and do not begin with a period, in the tool's
+/// folders. For systemd-tmpfiles these are `/etc/tmpfiles.d`, `/run/tmpfiles.d`, `/usr/local/lib/tmpfiles.d` and
+/// `/usr/lib/tmpfiles.d`. For systemd-sysusers they end in `sysusers.d` instead (tmpfiles.d(5) and sysusers.d(5),
+/// "Configuration Directories and Precedence").
+/// - The files are in the byte order of their names, each name once. The first folder that has the name decides.
+/// - A link whose target is exactly `/dev/null` masks the name: it gives no file and no message.
+/// - For any other object that is not a regular file, the message is `PATH: not a regular file`.
+///
+/// With words, the files are in the order of the words. If the same word is given again, it has no further effect.
+/// - A word that begins with a slash is a path. Any other word is a file name, with any ending, looked up in the
+///   folders in the same way.
+/// - A mask gives no file and no message.
+/// - If the word names no regular file, `missing` is set and the message is `WORD: not found`.
+///
+/// The only error is `AllocError`, and then only some of these messages, a prefix of their list, were added.
 pub fn chosen_files<T: Tree>(
     alloc: Global,
     tree: &T,

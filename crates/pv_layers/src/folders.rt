@@ -1,4 +1,4 @@
-//! The folders of configuration files, and the names in them that count.
+//! The folders of configuration files, and which names in them are configuration files.
 ghost use Rattle.std.specs.Prelude.{◌≡◌, ℕ, true, List, [], ◌∷◌, ◌++◌, filter, map, IfOk, OnOk};
 ghost use Rattle.std.specs.List.{AllPass, fold, flat_map};
 ghost use Rattle.pv_path.specs.Names.{is_name};
@@ -11,7 +11,7 @@ use pv_text::Tool;
 use std::alloc::{AllocError, Global};
 use std::collections::BTreeSet;
 
-/// The name in which the folders of a tool end.
+/// Returns the name in which the folders of a tool end.
 fn last_folder(tool: Tool) -> &'static [u8]
     ensures value { result.now ≡ last_folder tool }
     ensures name { is_name result.now ≡ true }
@@ -22,7 +22,7 @@ fn last_folder(tool: Tool) -> &'static [u8]
     }
 }
 
-/// The path of some names.
+/// Builds the path of some names.
 fn path_of(alloc: Global, names: &[&[u8]]) -> Result<TreePath, AllocError>
     requires { AllPass (λ name. is_name name.now) names.now }
     ensures { IfOk result (λ path. path ≡ map (λ name. name.now) names.now) }
@@ -34,7 +34,9 @@ fn path_of(alloc: Global, names: &[&[u8]]) -> Result<TreePath, AllocError>
     Ok(path)
 }
 
-/// The path of `/etc`.
+/// Returns the path `/etc`.
+///
+/// The only error is `AllocError`.
 pub fn etc_path(alloc: Global) -> Result<TreePath, AllocError>
     ensures { IfOk result (λ path. path ≡ etc) }
 {
@@ -49,7 +51,7 @@ fn add_path(alloc: Global, list: &mut PathList, names: &[&[u8]]) -> Result<(), A
     list.push(path_of(alloc, names)?)
 }
 
-/// The folders of a tool, the one that counts most first.
+/// Returns the folders of a tool. The one whose files hide those of the others comes first.
 pub(crate) fn folders(alloc: Global, tool: Tool) -> Result<PathList, AllocError>
     ensures { IfOk result (λ list. list ≡ folders tool) }
 {
@@ -62,8 +64,13 @@ pub(crate) fn folders(alloc: Global, tool: Tool) -> Result<PathList, AllocError>
     Ok(list)
 }
 
-/// The paths from which the lines of systemd-tmpfiles are read: its folders, and the files of users and groups
-/// (tmpfiles.d(5), passwd(5), group(5)).
+/// Returns the input paths of systemd-tmpfiles: the folders and files that decide which lines it reads, and what they
+/// mean.
+///
+/// They are the four folders of tmpfiles.d(5) in the order of their precedence, then `/etc/passwd` and `/etc/group`
+/// (passwd(5), group(5)). Everything below such a folder is an input path too.
+///
+/// The only error is `AllocError`.
 pub fn inputs(alloc: Global) -> Result<PathList, AllocError>
     ensures { IfOk result (λ list. list ≡ inputs) }
 {
@@ -73,7 +80,7 @@ pub fn inputs(alloc: Global) -> Result<PathList, AllocError>
     Ok(list)
 }
 
-/// Whether a name is one of a configuration file.
+/// Returns whether a name is that of a configuration file: it ends in `.conf` and does not begin with a period.
 fn is_conf(name: &[u8]) -> bool
     ensures { result ≡ is_conf name.now }
 {
@@ -92,7 +99,7 @@ fn add_conf(found: &[Name], names: &mut BTreeSet<Name>) -> Result<(), AllocError
     Ok(())
 }
 
-/// Adds the names of the configuration files in a folder.
+/// Adds the names of the configuration files in a folder. If the folder is not a directory, it adds none.
 fn add_names<T: Tree>(
     alloc: Global,
     tree: &T,
@@ -107,7 +114,7 @@ fn add_names<T: Tree>(
     }
 }
 
-/// The names of the configuration files in some folders, in byte order, each once.
+/// Returns the names of the configuration files in some folders, in byte order, each once.
 pub(crate) fn conf_names<T: Tree>(
     alloc: Global,
     tree: &T,

@@ -1,4 +1,4 @@
-//! What stands where a configuration file is looked for: a file, a mask, something else, or nothing.
+//! What is found where a configuration file is looked for: a file, a mask, something else, or nothing.
 ghost use Rattle.std.specs.Prelude.{◌≡◌, ◌∷◌, ◌++◌, [], true, IfOk};
 ghost use Rattle.pv_path.specs.Names.{is_name, same_bytes};
 ghost use Rattle.pv_layers.specs.Folders.{found_at, found_in, mask_target};
@@ -7,20 +7,20 @@ use pv_path::{PathList, TreePath, child};
 use pv_steps::{Kind, Tree};
 use std::alloc::{AllocError, Global};
 
-/// What a path or a name stands for as a configuration file.
+/// What is found at the path where a configuration file is looked for.
 #[derive(Drop)]
 pub(crate) enum Found {
-    /// No object is there.
+    /// There is no object.
     Missing,
-    /// A link to exactly `/dev/null`.
+    /// A link whose target is exactly `/dev/null`.
     Masked,
-    /// Neither a regular file nor a mask.
+    /// An object that is neither a regular file nor a mask.
     Odd(TreePath),
     /// A regular file.
     Regular(TreePath),
 }
 
-/// The object at a path.
+/// Looks up what is at a path.
 pub(crate) fn found_at<T: Tree>(tree: &T, path: TreePath) -> Found
     ensures { result ≡ found_at (T.state tree.now) path }
 {
@@ -35,7 +35,7 @@ pub(crate) fn found_at<T: Tree>(tree: &T, path: TreePath) -> Found
     }
 }
 
-/// What a name stands for in some folders: the first that has it decides.
+/// Looks up a name in some folders. The first folder that has the name decides.
 pub(crate) fn found_in<T: Tree>(
     alloc: Global,
     tree: &T,
@@ -54,7 +54,7 @@ pub(crate) fn found_in<T: Tree>(
     Ok(Found::Missing)
 }
 
-/// Whether a link with this target masks its name.
+/// Returns whether a link with this target masks its name.
 fn is_mask(target: &[u8]) -> bool
     ensures { result ≡ same_bytes target.now mask_target }
 {

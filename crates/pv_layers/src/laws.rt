@@ -7,14 +7,18 @@ ghost use Rattle.pv_layers.specs.Choices.{chosen};
 ghost use Rattle.pv_layers.specs.Folders.{folders};
 ghost use Rattle.pv_layers.specs.Inputs.{is_within, AreInput, IsPlain, SameContent};
 
-/// What a tool chooses is the same for two trees with the same presence, kinds and payloads in its folders. The premise
-/// is that each word that begins with a slash is a path there, or not a path.
+/// States that the choice of files depends only on the presence, kinds and payloads of objects in the tool's folders.
+///
+/// If two trees have the same of these at and below the folders, the tool chooses the same files in both and adds the
+/// same messages. The premise is that each word that can be read as an absolute path is a path in the folders.
 pub fn the_choice_depends_on_the_folders()
     ensures { (t u : Files) (tool : ToolValue) (words : List (List ℕ)) → SameContent (is_within (folders tool)) t u
         → AllByRecursion (IsPlain (is_within (folders tool))) words → chosen t tool words ≡ chosen u tool words }
 {}
 
-/// For such words the chosen files stand in the folders of the tool.
+/// States that all chosen files are in the folders of the tool.
+///
+/// The premise is that each word that can be read as an absolute path is a path in the folders.
 pub fn the_chosen_stand_in_the_folders()
     ensures { (files : Files) (tool : ToolValue) (words : List (List ℕ)) → AllByRecursion (IsPlain (is_within (folders tool))) words
         → AreInput (is_within (folders tool)) (chosen files tool words).files }

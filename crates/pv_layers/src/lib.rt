@@ -1,4 +1,6 @@
-//! Which files of a tree a run reads as its configuration.
+//! Chooses the files of a tree that a run reads as its configuration (tmpfiles.d(5), sysusers.d(5)).
+//!
+//! Each tool has four folders. A file hides a file of the same name in each folder of lower precedence.
 #![tactic(auto)]
 
 mod chosen;

@@ -1,4 +1,4 @@
-//! What a file word finds.
+//! Looks up the file that a word of the command line names.
 ghost use Rattle.std.specs.Prelude.{◌≡◌, ◌==◌, IfOk};
 ghost use Rattle.std.specs.Result.{result_ok};
 ghost use Rattle.pv_path.specs.Parsing.{path_of};
@@ -9,7 +9,7 @@ use pv_path::{PathFault, PathList, TreePath, is_name, parse_path};
 use pv_steps::Tree;
 use std::alloc::{AllocError, Global};
 
-/// The path that a text spells, or nothing.
+/// Reads the path that a text spells. The answer is nothing if the text does not spell a path.
 fn read_path(alloc: Global, text: &[u8]) -> Result<Option<TreePath>, AllocError>
     ensures { IfOk result (λ path. path ≡ result_ok (path_of text.now)) }
 {
@@ -20,7 +20,7 @@ fn read_path(alloc: Global, text: &[u8]) -> Result<Option<TreePath>, AllocError>
     }
 }
 
-/// What a word stands for: a path where it begins with a slash, otherwise a name in the folders.
+/// Looks up what a word names: a path if it begins with a slash, otherwise a name in the folders.
 pub(crate) fn found_word<T: Tree>(
     alloc: Global,
     tree: &T,

@@ -4,6 +4,5 @@ mod Fields
 mod Octal
 mod Texts
 mod Letters
-pub mod LineLaws
 mod WordLaws
 pub mod ArgumentLaws

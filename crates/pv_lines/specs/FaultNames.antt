@@ -1,4 +1,4 @@
--- The names of faults, as messages print them: that of the innermost fault, without places.
+-- The names of faults, as messages print them. A fault that wraps another one has the name of the innermost one.
 use Rattle.std.specs.Prelude.{ℕ, List, codes}
 use Rattle.pv_acl.specs.declared.acl_fault.AclFault.TheVariants as acl
 use Rattle.pv_acl.specs.declared.acl_fault.AclFault.{AclFault}
@@ -12,7 +12,7 @@ use Rattle.pv_path.specs.declared.path_fault.PathFault.TheVariants as path
 use Rattle.pv_path.specs.declared.path_fault.PathFault.{PathFault}
 use Rattle.pv_text.specs.FaultNames.{expansion_name, field_name}
 
--- of a path
+-- The names of the faults of a path.
 abbrev pub path_name : PathFault → List ℕ
 path_name path.NotAbsolute = codes "NotAbsolute"
 path_name path.BadByte = codes "BadByte"
@@ -22,7 +22,7 @@ path_name path.NameTooLong = codes "NameTooLong"
 path_name path.StagingName = codes "StagingName"
 path_name path.Memory = codes "Memory"
 
--- of a pattern
+-- The names of the faults of a pattern.
 abbrev pub pattern_name : PatternFault → List ℕ
 pattern_name pattern.NotAbsolute = codes "NotAbsolute"
 pattern_name pattern.BadByte = codes "BadByte"
@@ -36,14 +36,14 @@ pattern_name pattern.Brace = codes "Brace"
 pattern_name pattern.TrailingBackslash = codes "TrailingBackslash"
 pattern_name pattern.Memory = codes "Memory"
 
--- of an age
+-- The names of the faults of an age.
 abbrev pub age_name : AgeFault → List ℕ
 age_name age.BadStampLetter = codes "BadStampLetter"
 age_name age.BadNumber = codes "BadNumber"
 age_name age.BadUnit = codes "BadUnit"
 age_name age.Overflow = codes "Overflow"
 
--- of ACL entries
+-- The names of the faults of ACL entries.
 abbrev pub acl_name : AclFault → List ℕ
 acl_name acl.EmptyEntry = codes "EmptyEntry"
 acl_name acl.BadTag = codes "BadTag"
@@ -51,7 +51,7 @@ acl_name acl.UnknownName = codes "UnknownName"
 acl_name acl.BadPerm = codes "BadPerm"
 acl_name acl.Memory = codes "Memory"
 
--- of a line
+-- The names of the faults of a line.
 abbrev pub name_of : LineFault → List ℕ
 name_of (line.Field f) = field_name f
 name_of line.UnknownType = codes "UnknownType"

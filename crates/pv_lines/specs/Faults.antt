@@ -1,4 +1,4 @@
--- Faults of lines that wrap those of a part, and what a reader answers.
+-- How faults of the parts of a line become faults of the line, and what a reader returns.
 use Rattle.std.specs.Prelude.{◌≡◌, Result, Ok, Err}
 use Rattle.pv_acl.specs.declared.acl_fault.AclFault.{AclFault}
 use Rattle.pv_acl.specs.declared.acl_fault.AclFault.TheVariants as acl
@@ -11,7 +11,8 @@ use Rattle.pv_text.specs.declared.text_fault.ExpandFault.TheVariants as expand
 use Rattle.pv_lines.specs.declared.line_fault.LineFault.{LineFault}
 use Rattle.pv_lines.specs.declared.line_fault.LineFault.TheVariants as fault
 
--- a fault of a part, told as that of the line; running out of memory is always told as itself
+-- The fault of a line for a fault in its specifiers, path, pattern or ACL entries. If memory ran out, the fault is
+-- always Memory.
 abbrev pub of_expansion : ExpandFault → LineFault
 of_expansion expand.Memory = fault.Memory
 of_expansion f = fault.Expand f
@@ -28,7 +29,7 @@ abbrev pub of_acl : AclFault → LineFault
 of_acl acl.Memory = fault.Memory
 of_acl f = fault.Acl f
 
--- what a call answered is what the definition gives, unless memory ran out
+-- What a call returned is what the definition gives. If it returned Memory, nothing is said.
 abbrev pub Gives : {A : Type 0} → Result A LineFault → Result A LineFault → Type 0
 Gives (Ok x) read = read ≡ Ok x
 Gives (Err fault.Memory) read = Unit {0}

@@ -1,4 +1,5 @@
--- The line that a text spells, field by field from the left, or its first fault (tmpfiles.d(5)); and what each such line is.
+-- The line that a text spells, field by field from the left, or its first fault (tmpfiles.d(5)). And what is true of
+-- every line that was read.
 use Rattle.std.specs.Prelude.{◌≡◌, ℕ, ◌<◌, ◌≤◌, ◌^◌, Bool, true, false, nat_le, List, [], codes, length, map, slice_get, slice_index_or, Option, Some, None, IfSome, Result, Ok, if◌then◌else◌}
 use Rattle.std.specs.List.{list_all}
 use Rattle.pv_acl.specs.Applying.{is_line}
@@ -30,15 +31,15 @@ use Rattle.pv_lines.specs.Types.{type_of}
 
 -- ---- what a line says
 
--- the texts of the fields, with their escapes undone
+-- The texts of the fields of a line, with their escapes undone, or the first fault of the fields.
 abbrev pub texts_of : List ℕ → Result (List (List ℕ)) LineFault
 texts_of line = in_words (λ f. fault.Field f) (fields_of line) >>= (λ spans. Ok (map (λ span. unescaped (text_at line span)) spans))
 
--- the text of a field that has to be there
+-- The text of the field at an index. If there is none, it is empty.
 abbrev pub text : List (List ℕ) → ℕ → List ℕ
 text texts i = slice_index_or texts i []
 
--- the text of a field that may be omitted: it is not there, or it is a dash
+-- The text of the field at an index. A field that is not there, or is a single dash, counts as omitted.
 abbrev pub given : List (List ℕ) → ℕ → Option (List ℕ)
 given texts i = by (slice_get texts i)
   where
@@ -46,7 +47,8 @@ given texts i = by (slice_get texts i)
     by None = None
     by (Some text) = if same_bytes text (codes "-") then None else Some text
 
--- the line of these texts at a place, or its first fault: Type, Path, Mode, User, Group, Age, Argument
+-- The line that these texts spell at a location (file and line), or its first fault. The fields are read in this
+-- order: Type, Path, Mode, User, Group, Age, Argument.
 abbrev pub line_with : Values → Lookup → Place → List (List ℕ) → Result Line LineFault
 line_with facts lookup place texts =
     typed_of (text texts 0) >>= (λ typed.
@@ -75,25 +77,26 @@ line_with facts lookup place texts =
       place = place;
     }))))))))
 
--- the line that a text spells at a place, or its first fault
+-- The line that a text spells at a location, or its first fault.
 abbrev pub line_of : Values → Lookup → Place → List ℕ → Result Line LineFault
 line_of facts lookup place line = texts_of line >>= line_with facts lookup place
 
 -- ---- what each line is that was read
 
--- names of 1 to 240 bytes, none of them a staging name, and fewer than 2^32
+-- A path that a line may have: fewer than 2^32 names of 1 to 240 bytes, none of which is a staging name.
 pub record IsConfigured (path : Path) : Type 0 where
   pub names : has_names path ≡ true
   pub short : list_all (λ name. nat_le (length name) 240) path ≡ true
   pub unstaged : has_staging path ≡ false
   pub few : length path < 2 ^ 32
 
--- a pattern has fewer than 2^32 components
+-- The path of a line. A type that makes an object has a path. Every other type has a pattern, and each of its
+-- expansions has fewer than 2^32 components.
 abbrev pub IsLinePath : Row → LinePath → Type 0
 IsLinePath row (Literal path) = (row.creates ≡ true) × IsConfigured path
 IsLinePath row (Glob pattern) = (row.creates ≡ false) × (list_all (λ plain. nat_le (length plain) 4294967295) pattern ≡ true)
 
--- an argument as the type wants it
+-- An argument is of the kind that the type takes, and its parts are in range.
 abbrev pub IsArgument : Wanted → Argument → Type 0
 IsArgument wanted.Content (argument.FileBytes bytes) = Unit {0}
 IsArgument wanted.Bytes (argument.WriteBytes bytes) = Unit {0}
@@ -106,15 +109,16 @@ IsArgument wanted.Letters (argument.Letters how letters) = letters < 2 ^ 15
 IsArgument wanted.Nothing argument.Ignored = Unit {0}
 IsArgument _ _ = ⊥
 
--- a modifier stands only if the type takes it
+-- A modifier is present only if the type takes it.
 abbrev pub Takes : Bool → Bool → Type 0
 Takes takes stands = stands ≡ true → takes ≡ true
 
--- an owner, if one is given, is an ID
+-- An owner, if one is given, is an ID.
 abbrev pub AreIds : Option LineId → Type 0
 AreIds owner = IfSome owner (λ owner. IsId owner.id)
 
--- a line by what its type takes
+-- A line has only what its type takes: its modifiers, path, age and argument. Only a type that takes the root may
+-- name it, and then without the modifier `$`. The mode is at most 07777, and owners are IDs.
 pub record IsLineOf (row : Row) (line : Line) : Type 0 where
   pub letter : line.letter ≡ row.letter
   pub plus : Takes row.plus line.plus
@@ -129,7 +133,7 @@ pub record IsLineOf (row : Row) (line : Line) : Type 0 where
   pub age : IfSome line.age (λ age. row.ages ≡ true)
   pub argument : IsArgument row.wanted line.argument
 
--- a line as each that was read is
+-- Every line that was read is like this: its letter is a type, and it has only what this type takes.
 pub record IsLine (line : Line) : Type 0 where
   pub row : Row
   pub is_type : type_of line.letter ≡ Some row

@@ -18,34 +18,38 @@ use Rattle.pv_lines.specs.declared.types.Row.{Row}
 use Rattle.pv_lines.specs.declared.path_field.Named.{Named}
 use Rattle.pv_lines.specs.declared.type_field.Typed.{Typed}
 
--- a text with its specifiers expanded
+-- A text with its specifiers expanded, or the first fault.
 abbrev pub expansion : Values → List ℕ → Result (List ℕ) LineFault
 expansion facts text = in_words of_expansion (expanded Tmpfiles facts text)
 
--- `/var/run/` is the old name of `/run/`
+-- Whether a text begins with `/var/run/`, the old name of `/run/`.
 abbrev pub is_moved : List ℕ → Bool
 is_moved text = starts_with nat_eq text (codes "/var/run/")
 
+-- A text with `/run/` in place of a leading `/var/run/`.
 abbrev pub current : List ℕ → List ℕ
 current text = if is_moved text then drop 4 text else text
 
--- what a text names: one path, or where the type takes patterns the paths that a pattern matches
+-- What a text names. If the type makes an object, it is one path. Otherwise it is a pattern, which stands for the
+-- paths that it matches.
 abbrev pub path_named : Row → List ℕ → Result LinePath LineFault
 path_named row text =
     if row.creates then result_map_both (λ path. Literal path) of_path (path_of text)
     else result_map_both (λ pattern. Glob pattern) of_pattern (pattern_of text)
 
--- whether the root is named
+-- Whether a path is the root, or a pattern matches the root.
 abbrev pub is_root : LinePath → Bool
 is_root (Literal []) = true
 is_root (Literal (name ∷ path)) = false
 is_root (Glob pattern) = some_matches pattern []
 
--- what is named, where the root is not, or may be
+-- What is named, or the fault RootPath. The root may be named only if the type takes it and the modifier `$` is not
+-- present.
 abbrev pub allowed : Typed → LinePath → Result LinePath LineFault
 allowed typed path = if is_root path && (not typed.row.root || typed.purge) then Err fault.RootPath else Ok path
 
--- what the field spells, or its first fault
+-- What the field names, or its first fault: of the specifiers, of the path or pattern, and RootPath. It also keeps
+-- the text, and whether `/var/run/` was rewritten.
 abbrev pub named_of : Values → Typed → List ℕ → Result Named LineFault
 named_of facts typed text =
     expansion facts text >>= (λ written.

@@ -9,7 +9,7 @@ use Rattle.pv_lines.specs.declared.type_field.Typed.{Typed}
 use Rattle.pv_lines.specs.declared.types.Row.{Row}
 use Rattle.pv_lines.specs.Types.{type_of}
 
--- the modifiers `+ ! - = ~ $`
+-- The modifiers `+ ! - = ~ $`.
 abbrev pub plus : ℕ
 plus = code "+"
 
@@ -28,22 +28,22 @@ encoded = code "~"
 abbrev pub purge : ℕ
 purge = code "$"
 
--- whether a type takes a modifier
+-- Whether a type takes a modifier. Each type takes `!` and `-`. The types that make an object take `$`.
 abbrev pub takes : Row → ℕ → Bool
 takes row mark =
     mark == boot || mark == minus || (mark == plus && row.plus) || (mark == replace && row.replace)
     || (mark == encoded && row.encoded) || (mark == purge && row.creates)
 
--- whether a byte is among some
+-- Whether a byte is among some bytes.
 abbrev pub has_mark : List ℕ → ℕ → Bool
 has_mark marks mark = list_any (λ other. other == mark) marks
 
--- whether each byte stands once
+-- Whether each byte occurs only once.
 abbrev pub stand_once : List ℕ → Bool
 stand_once [] = true
 stand_once (mark ∷ marks) = not (has_mark marks mark) && stand_once marks
 
--- a type with the modifiers that stand behind its letter
+-- A type with the modifiers that follow its letter. For `F`, `+` is always set.
 abbrev pub with_marks : Row → List ℕ → Typed
 with_marks row marks = record {
   row = row;
@@ -55,7 +55,8 @@ with_marks row marks = record {
   purge = has_mark marks purge;
 }
 
--- what the field spells, or its fault
+-- What the field spells, or its fault. It is UnknownType if there is no letter or no such type. It is BadModifier if
+-- the type does not take a modifier, or if a modifier occurs twice.
 abbrev pub typed_of : List ℕ → Result Typed LineFault
 typed_of [] = Err UnknownType
 typed_of (letter ∷ marks) =

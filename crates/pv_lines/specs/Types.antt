@@ -5,8 +5,8 @@ use Rattle.pv_lines.specs.declared.types.Row.{Row}
 use Rattle.pv_lines.specs.declared.types.Wanted.{Wanted}
 use Rattle.pv_lines.specs.declared.types.Wanted.TheVariants.{Content, Bytes, Target, Source, Device, Entries, Attrs, Letters, Nothing}
 
--- a type that makes the object at its path, and one that adjusts or takes away what its pattern matches; neither takes
--- the root, an age or an argument
+-- A type that makes the object at its path. It takes the modifier `=`. It does not take the root, an age or an
+-- argument.
 abbrev pub creating : ℕ → Row
 creating letter = record {
   letter = letter;
@@ -20,10 +20,12 @@ creating letter = record {
   wanted = Nothing;
 }
 
+-- A type that adjusts, removes or spares what its pattern matches. It does not take the root, an age, an argument or
+-- the modifier `=`.
 abbrev pub matching : ℕ → Row
 matching letter = record (creating letter) { replace = false; creates = false }
 
--- what a type takes besides
+-- What a type takes besides: `+`, `~`, the root, an age, or an argument.
 abbrev pub with_plus : Row → Row
 with_plus row = record row { plus = true }
 
@@ -39,9 +41,13 @@ with_age row = record row { ages = true }
 abbrev pub wanting : Wanted → Row → Row
 wanting argument row = record row { wanted = argument }
 
--- f F files; d D v q Q directories; p FIFOs; L links; c b devices; C copies; w written files; e directories that are
--- there; z Z modes and owners; a A ACLs; t T extended attributes; h H letters; r R removal; x X what is not cleaned.
--- F is kept as f with `+`
+-- All types:
+-- - Files (`f F`), directories (`d D v q Q`), FIFOs (`p`), symbolic links (`L`), devices (`c b`) and copies (`C`) are
+--   made.
+-- - Files are written (`w`), and existing directories are adjusted (`e`).
+-- - Owners and modes (`z Z`), ACLs (`a A`), extended attributes (`t T`) and file attribute flags (`h H`) are set.
+-- - Objects are removed (`r R`), or spared from cleaning (`x X`).
+-- `F` is kept as `f` with `+`.
 abbrev pub types : List (ℕ × Row)
 types =
     (code "f", with_plus (with_encoded (wanting Content (creating (code "f")))))
@@ -72,6 +78,6 @@ types =
     ∷ (code "X", with_root (with_age (matching (code "X"))))
     ∷ []
 
--- what the type of a letter takes, if there is one
+-- What the type of a letter takes, if there is such a type.
 abbrev pub type_of : ℕ → Option Row
 type_of letter = option_map (λ entry. entry.1) (find (λ entry. entry.0 == letter) types)

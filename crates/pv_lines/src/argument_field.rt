@@ -19,7 +19,7 @@ use pv_path::{Bytes, PathFault, TreePath, parse_path};
 use pv_text::Facts;
 use std::alloc::{AllocError, Global};
 
-/// What an argument gives as bytes.
+/// Returns the bytes of an argument: decoded from Base64, or with its specifiers expanded.
 fn bytes_of(alloc: Global, text: &[u8], facts: &Facts, encoded: bool) -> Result<Bytes, LineFault>
     ensures { Gives result (bytes_of facts.now encoded text.now) }
 {
@@ -33,7 +33,7 @@ fn bytes_of(alloc: Global, text: &[u8], facts: &Facts, encoded: bool) -> Result<
     }
 }
 
-/// The names of a path, each behind a slash, below `/usr/share/factory`.
+/// Returns the path of the line below `/usr/share/factory`.
 fn factory(alloc: Global, path: &LinePath) -> Result<Bytes, AllocError>
     ensures { IfOk result (λ text. text ≡ factory path.now) }
 {
@@ -48,7 +48,7 @@ fn factory(alloc: Global, path: &LinePath) -> Result<Bytes, AllocError>
     Ok(Bytes::from_vec(text))
 }
 
-/// The text of a target or of a source.
+/// Returns the text of a target or of a source. If it is omitted, it is the path below `/usr/share/factory`.
 fn text_or_factory(
     alloc: Global,
     field: Option<&[u8]>,
@@ -63,7 +63,7 @@ fn text_or_factory(
     }
 }
 
-/// A target of a link, where it may be one.
+/// Checks that a text may be the target of a link.
 fn checked_target(text: Bytes) -> Result<Bytes, LineFault>
     ensures { result ≡ checked_target text }
 {
@@ -78,7 +78,7 @@ fn checked_target(text: Bytes) -> Result<Bytes, LineFault>
     }
 }
 
-/// The number of 32 bits that a text writes.
+/// Reads a decimal number of 32 bits, or gives nothing.
 fn number_32(text: &[u8]) -> Option<u32>
     ensures { result ≡ number_32 text.now }
 {
@@ -88,14 +88,14 @@ fn number_32(text: &[u8]) -> Option<u32>
     }
 }
 
-/// What stands between the colons of a text.
+/// Splits a text at its colons.
 fn parts_of(alloc: Global, text: &[u8]) -> Result<Vec<&[u8]>, AllocError>
     ensures { IfOk result (λ parts. map (λ part. part.now) parts.items ≡ slice_split (λ b. b == 58) text.now) }
 {
     text.split(|byte| *byte == b':').collect(alloc)
 }
 
-/// The device of its parts, where they are two numbers.
+/// Returns the device of some parts, if they are two numbers.
 fn device_in(parts: &[&[u8]]) -> Option<Argument>
     ensures fits { IfSome result (IsArgument Wanted.Device) }
     ensures value { result ≡ device_in (map (λ part. part.now) parts.now) }
@@ -109,7 +109,7 @@ fn device_in(parts: &[&[u8]]) -> Option<Argument>
     })
 }
 
-/// The device that a text names, `MAJOR:MINOR`, or the fault.
+/// Reads a device, `MAJOR:MINOR`, or gives the error.
 fn device_of(alloc: Global, text: &[u8]) -> Result<Argument, LineFault>
     ensures read { Gives result (device_of text.now) }
     ensures fits { IfOk result (IsArgument Wanted.Device) }
@@ -121,7 +121,7 @@ fn device_of(alloc: Global, text: &[u8]) -> Result<Argument, LineFault>
     }
 }
 
-/// The text of an argument that is needed, with its specifiers expanded.
+/// Expands the specifiers of an argument that the type needs.
 fn expanded_argument(alloc: Global, field: Option<&[u8]>, facts: &Facts) -> Result<Bytes, LineFault>
     ensures { Gives result (needed_text facts.now (option_map (λ s. s.now) field.entry)) }
 {
@@ -131,7 +131,7 @@ fn expanded_argument(alloc: Global, field: Option<&[u8]>, facts: &Facts) -> Resu
     }
 }
 
-/// An argument that is not empty, or the fault.
+/// Returns the text of an argument, or the error if it is empty.
 fn filled(text: Bytes) -> Result<Bytes, LineFault>
     ensures { result ≡ filled text }
 {
@@ -142,14 +142,14 @@ fn filled(text: Bytes) -> Result<Bytes, LineFault>
     }
 }
 
-/// The text of an argument that is needed, with its specifiers expanded, if it is not empty then.
+/// Expands the specifiers of an argument that the type needs, or gives the error if it is empty then.
 fn filled_argument(alloc: Global, field: Option<&[u8]>, facts: &Facts) -> Result<Bytes, LineFault>
     ensures { Gives result (filled_text facts.now (option_map (λ s. s.now) field.entry)) }
 {
     filled(expanded_argument(alloc, field, facts)?)
 }
 
-/// The bytes of a file, which may be omitted.
+/// Reads the content of a file, which may be omitted.
 fn content_of(
     alloc: Global,
     field: Option<&[u8]>,
@@ -168,7 +168,7 @@ fn content_of(
     }
 }
 
-/// Bytes to write.
+/// Reads the bytes that are written.
 fn written_of(
     alloc: Global,
     field: Option<&[u8]>,
@@ -187,7 +187,7 @@ fn written_of(
     }
 }
 
-/// The target of a link.
+/// Reads the target of a link.
 fn target_of(
     alloc: Global,
     field: Option<&[u8]>,
@@ -201,7 +201,7 @@ fn target_of(
     Ok(Argument::Target(checked_target(text)?))
 }
 
-/// The path that is copied.
+/// Reads the path that is copied.
 fn source_of(
     alloc: Global,
     field: Option<&[u8]>,
@@ -215,7 +215,7 @@ fn source_of(
     Ok(Argument::Source(parse_path(alloc, text.as_slice())?))
 }
 
-/// ACL entries.
+/// Reads ACL entries.
 fn entries_of<N: Names>(
     alloc: Global,
     field: Option<&[u8]>,
@@ -231,7 +231,7 @@ fn entries_of<N: Names>(
     Ok(Argument::Entries(parse_acl(alloc, text.as_slice(), names)?))
 }
 
-/// What the field Argument gives, by what the type wants of it, or its first fault.
+/// Reads the field Argument as the type wants it, or gives its first error.
 pub(crate) fn argument_of<N: Names>(
     alloc: Global,
     field: Option<&[u8]>,

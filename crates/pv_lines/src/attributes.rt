@@ -1,4 +1,4 @@
-//! Extended attributes and letters, as an argument gives them (xattr(7), chattr(1)).
+//! Extended attributes and file attribute flags, as an argument gives them (xattr(7), chattr(1)).
 ghost use Rattle.std.specs.Prelude.{◌≡◌, ℕ, ◌<◌, ◌^◌, List, [], ◌∷◌, ◌++◌, ◌==◌, true, length, None, Some, OnOk, IfOk, IfSome, option_map, position};
 ghost use Rattle.pv_text.specs.Fields.{is_quote};
 ghost use Rattle.pv_steps.specs.Attributes.{is_attr, are_attrs};
@@ -14,7 +14,7 @@ use pv_path::Bytes;
 use pv_steps::{Attr, AttrList, LetterHow, LetterSet, is_attr};
 use std::alloc::{AllocError, Global};
 
-/// Words as they are read from a text, byte by byte.
+/// The words of a text, as they are read byte by byte.
 #[derive(Drop)]
 struct WordReader {
     /// The words that have ended.
@@ -26,7 +26,7 @@ struct WordReader {
 }
 
 impl WordReader {
-    /// No words, of which none has begun.
+    /// Begins with no words.
     fn new(alloc: Global) -> WordReader
         ensures { (text : List ℕ) → words_of result text ≡ words_from None None text }
     {
@@ -37,7 +37,7 @@ impl WordReader {
         }
     }
 
-    /// Goes on by one byte.
+    /// Reads one more byte.
     fn read(&mut self, alloc: Global, byte: u8) -> Result<(), AllocError>
         ensures { OnOk result ((text : List ℕ) → words_of self.new text ≡ words_of self.old (byte ∷ text)) }
     {
@@ -47,7 +47,7 @@ impl WordReader {
         }
     }
 
-    /// Goes on by one byte behind a quote that is open.
+    /// Reads one more byte while a quote is open.
     fn read_quoted(&mut self, alloc: Global, quote: u8, byte: u8) -> Result<(), AllocError>
         requires { self.old.quote ≡ Some quote }
         ensures { OnOk result ((text : List ℕ) → words_of self.new text ≡ words_of self.old (byte ∷ text)) }
@@ -60,7 +60,7 @@ impl WordReader {
         Ok(())
     }
 
-    /// Goes on by one byte where no quote is open.
+    /// Reads one more byte while no quote is open.
     fn read_bare(&mut self, alloc: Global, byte: u8) -> Result<(), AllocError>
         requires { self.old.quote ≡ None }
         ensures { OnOk result ((text : List ℕ) → words_of self.new text ≡ words_of self.old (byte ∷ text)) }
@@ -78,14 +78,14 @@ impl WordReader {
         Ok(())
     }
 
-    /// Begins a word, where none has begun.
+    /// Begins a word, if none has begun.
     fn begin(&mut self, alloc: Global)
         ensures { self.new ≡ record self.old { word = Some (begun self.old.word) } }
     {
         self.word = Some(begun(alloc, self.word.take()));
     }
 
-    /// Adds a byte to the word that has begun, or begins one with it.
+    /// Adds a byte to the word that has begun, or begins a word with it.
     fn push(&mut self, alloc: Global, byte: u8) -> Result<(), AllocError>
         ensures { OnOk result (self.new ≡ record self.old { word = Some (begun self.old.word ++ byte ∷ []) }) }
     {
@@ -93,7 +93,7 @@ impl WordReader {
         Ok(())
     }
 
-    /// Ends the word that has begun, if one has.
+    /// Ends the word that has begun, if there is one.
     fn end_word(&mut self) -> Result<(), AllocError>
         ensures { OnOk result ((self.new.words.items ≡ self.old.words.items ++ begun_words self.old.word)
             × (self.new.word ≡ None) × (self.new.quote ≡ self.old.quote)) }
@@ -117,7 +117,7 @@ fn is_space(byte: u8) -> bool
     byte == b' ' || byte == b'\t'
 }
 
-/// A word that has begun, or an empty one.
+/// Returns the word that has begun, or an empty one.
 fn begun(alloc: Global, word: Option<Bytes>) -> Bytes
     ensures { result ≡ begun word }
 {
@@ -127,7 +127,7 @@ fn begun(alloc: Global, word: Option<Bytes>) -> Bytes
     }
 }
 
-/// A word, or an empty one, with one byte more.
+/// Returns a word, or an empty one, with a byte added at its end.
 fn followed(alloc: Global, word: Option<Bytes>, byte: u8) -> Result<Bytes, AllocError>
     ensures { IfOk result (λ text. text ≡ begun word ++ byte ∷ []) }
 {
@@ -136,8 +136,8 @@ fn followed(alloc: Global, word: Option<Bytes>, byte: u8) -> Result<Bytes, Alloc
     Ok(word)
 }
 
-/// The words of a text between spaces and tabs, or nothing if a quote stays open. A part between two
-/// quotes of one kind may hold spaces and tabs, and the quotes are dropped.
+/// Splits a text into words at spaces and tabs, or gives nothing if a quote stays open. A part between two quotes of
+/// one kind may have spaces and tabs, and the quotes are dropped.
 fn words_in(alloc: Global, text: &[u8]) -> Result<Option<Vec<Bytes>>, AllocError>
     ensures { IfOk result (λ words. option_map (λ v. v.items) words ≡ words_from None None text.now) }
 {
@@ -152,7 +152,7 @@ fn words_in(alloc: Global, text: &[u8]) -> Result<Option<Vec<Bytes>>, AllocError
     Ok(Some(reader.words))
 }
 
-/// The place of the first `=`.
+/// Returns the index of the first `=`, if there is one.
 fn equals_at(word: &[u8]) -> Option<usize>
     ensures place { result ≡ position (λ b. b == 61) word.now }
     ensures within { IfSome result (λ at. at < length word.now) }
@@ -160,7 +160,7 @@ fn equals_at(word: &[u8]) -> Option<usize>
     word.iter().position(|byte| *byte == b'=')
 }
 
-/// The attribute of a word `NAME=VALUE`, or nothing.
+/// Reads the attribute of a word `NAME=VALUE`, or gives nothing if it is not one.
 fn attr_in(alloc: Global, word: &[u8]) -> Result<Option<Attr>, AllocError>
     ensures value { IfOk result (λ attr. attr ≡ attr_in word.now) }
     ensures allowed { IfOk result (λ attr. IfSome attr (λ attr. is_attr attr.name attr.value ≡ true)) }
@@ -178,7 +178,7 @@ fn attr_in(alloc: Global, word: &[u8]) -> Result<Option<Attr>, AllocError>
     }))
 }
 
-/// The attributes of words, where of two with one name the later counts, or nothing.
+/// Reads the attributes of words, or gives nothing if a word is not one. Of two with one name the later counts.
 fn attrs_in(alloc: Global, words: &[Bytes]) -> Result<Option<AttrList>, AllocError>
     ensures value { IfOk result (λ attrs. attrs ≡ attrs_in words.now []) }
     ensures allowed { IfOk result (λ attrs. IfSome attrs (λ attrs. are_attrs attrs ≡ true)) }
@@ -193,7 +193,7 @@ fn attrs_in(alloc: Global, words: &[Bytes]) -> Result<Option<AttrList>, AllocErr
     Ok(Some(attrs))
 }
 
-/// The extended attributes that a text gives, or the fault.
+/// Reads a list of extended attributes, or gives the error.
 pub(crate) fn attrs_of(alloc: Global, text: &[u8]) -> Result<Argument, LineFault>
     ensures read { Gives result (attrs_of text.now) }
     ensures fits { IfOk result (IsArgument Wanted.Attrs) }
@@ -207,7 +207,7 @@ pub(crate) fn attrs_of(alloc: Global, text: &[u8]) -> Result<Argument, LineFault
     }
 }
 
-/// The sign in front of letters, and the letters behind it.
+/// Splits the sign from the flags behind it. Without a sign the flags are added.
 fn sign_of(text: &[u8]) -> (LetterHow, &[u8])
     ensures { (result.0, result.1.now) ≡ sign_of text.now }
 {
@@ -219,7 +219,7 @@ fn sign_of(text: &[u8]) -> (LetterHow, &[u8])
     }
 }
 
-/// The set of some letters, or nothing if a byte is no letter.
+/// Returns the set of some flags, or nothing if a byte is not a flag.
 fn set_of(letters: &[u8]) -> Option<LetterSet>
     ensures value { result ≡ set_of letters.now }
     ensures few { IfSome result (λ set. set < 2 ^ 15) }
@@ -231,7 +231,7 @@ fn set_of(letters: &[u8]) -> Option<LetterSet>
     Some(set)
 }
 
-/// The letters that a text gives, or the fault. It takes no memory.
+/// Reads file attribute flags, or gives the error. The call does not allocate.
 pub(crate) fn letters_of(text: &[u8]) -> Result<Argument, LineFault>
     ensures read { result ≡ letters_of text.now }
     ensures fits { IfOk result (IsArgument Wanted.Letters) }

@@ -1,4 +1,4 @@
-//! The names of faults, as messages print them.
+//! The names of errors, as messages print them.
 ghost use Rattle.std.specs.Prelude.{◌≡◌};
 ghost use Rattle.pv_lines.specs.FaultNames.{acl_name, age_name, name_of, path_name, pattern_name};
 
@@ -8,6 +8,7 @@ use pv_age::AgeFault;
 use pv_glob::PatternFault;
 use pv_path::PathFault;
 
+/// Returns the name of an error of a path.
 fn path_name(fault: PathFault) -> &'static [u8]
     ensures { result.now ≡ path_name fault }
 {
@@ -22,6 +23,7 @@ fn path_name(fault: PathFault) -> &'static [u8]
     }
 }
 
+/// Returns the name of an error of a pattern.
 fn pattern_name(fault: PatternFault) -> &'static [u8]
     ensures { result.now ≡ pattern_name fault }
 {
@@ -40,6 +42,7 @@ fn pattern_name(fault: PatternFault) -> &'static [u8]
     }
 }
 
+/// Returns the name of an error of an age.
 fn age_name(fault: AgeFault) -> &'static [u8]
     ensures { result.now ≡ age_name fault }
 {
@@ -51,6 +54,7 @@ fn age_name(fault: AgeFault) -> &'static [u8]
     }
 }
 
+/// Returns the name of an error of ACL entries.
 fn acl_name(fault: AclFault) -> &'static [u8]
     ensures { result.now ≡ acl_name fault }
 {
@@ -63,7 +67,10 @@ fn acl_name(fault: AclFault) -> &'static [u8]
     }
 }
 
-/// The name of a fault, as messages print it: that of the innermost fault, without places. It takes no memory.
+/// Returns the name of an error as messages print it, such as `BadMode`.
+///
+/// An error may wrap that of a part: a field, a specifier, a path, a pattern, an age or ACL entries. Then the name is
+/// that of the inner error, such as `NotAbsolute`. The name has no index in it. The call does not allocate.
 pub fn name_of(fault: LineFault) -> &'static [u8]
     ensures { result.now ≡ name_of fault }
 {

@@ -1,4 +1,4 @@
-//! Lines of a configuration, read from their bytes (tmpfiles.d(5)).
+//! Reads the lines of a tmpfiles.d(5) configuration from their bytes.
 #![tactic(auto)]
 
 mod argument_field;

@@ -1,4 +1,4 @@
-//! A line as it was read: all that it asks for, and where it stands (tmpfiles.d(5)).
+//! A line as it was read: all that it asks for, and its location (tmpfiles.d(5)).
 use pv_acl::AclLine;
 use pv_age::Age;
 use pv_glob::Pattern;
@@ -6,91 +6,97 @@ use pv_path::{Bytes, TreePath};
 use pv_steps::{AttrList, LetterHow, LetterSet};
 use pv_text::Place;
 
-/// A line of a configuration (tmpfiles.d(5)).
+/// A line of a configuration, as it was read (tmpfiles.d(5)).
+///
+/// In a line from `read_line`, the modifiers, the age and the argument are only those that its type takes.
 #[derive(Drop)]
 pub struct Line {
-    /// The letter of its type; F is kept as f with `plus`.
+    /// The letter of its type, as an ASCII byte. The type `F` is kept as `f` with `plus`.
     pub letter: u8,
-    /// The modifier `+`.
+    /// Whether the modifier `+` was given, or the type is `F`. What it does depends on the type.
     pub plus: bool,
-    /// The modifier `!`: only at boot.
+    /// Whether the modifier `!` was given: the line is active only with `--boot`.
     pub boot: bool,
-    /// The modifier `-`: a refusal in the create phase does not count.
+    /// Whether the modifier `-` was given: if the line is refused in the create phase, this does not count as a
+    /// failure.
     pub minus: bool,
-    /// The modifier `=`: an object of the wrong kind is replaced.
+    /// Whether the modifier `=` was given: an object of another kind at the path is replaced.
     pub replace: bool,
-    /// The modifier `~`: the argument was written in Base64.
+    /// Whether the modifier `~` was given: the argument was written in Base64. `argument` has the decoded bytes.
     pub encoded: bool,
-    /// The modifier `$`: purging takes the path away.
+    /// Whether the modifier `$` was given: the purge phase removes the path.
     pub purge: bool,
     /// The path, or the pattern of paths.
     pub path: LinePath,
-    /// The path as it is written, after escapes, specifiers and the rewriting of `/var/run/`.
+    /// The text of the path or pattern, after escapes were replaced, specifiers were expanded, and `/var/run/` at the
+    /// beginning was read as `/run/`.
     pub path_text: Bytes,
-    /// Whether `/var/run/` was read as `/run/`.
+    /// Whether the path began with `/var/run/`, which is read as `/run/`.
     pub moved: bool,
-    /// The mode, if one is given.
+    /// The mode, if one was given.
     pub mode: Option<LineMode>,
-    /// The owner, if one is given.
+    /// The owner, if one was given.
     pub user: Option<LineId>,
-    /// The owning group, if one is given.
+    /// The owning group, if one was given.
     pub group: Option<LineId>,
-    /// The age, where the type uses one and it is given.
+    /// The age, if the type uses one and it was given.
     pub age: Option<Age>,
-    /// What the type takes besides.
+    /// The argument, as the type of the line reads it.
     pub argument: Argument,
-    /// Where the line stands.
+    /// The location of the line: its file and its line number.
     pub place: Place,
 }
 
-/// What a line names.
+/// The path or the pattern of a line.
 #[derive(Drop)]
 pub enum LinePath {
-    /// One path.
+    /// One path. Types that create an object have a path.
     Literal(TreePath),
-    /// The paths that a pattern matches.
+    /// The paths that a pattern matches (glob(7)). All other types have a pattern.
     Glob(Pattern),
 }
 
-/// A mode as a line gives it.
+/// A mode as a line gives it (tmpfiles.d(5), "Mode").
 #[derive(Clone, Copy, PartialEq, Eq)]
 pub struct LineMode {
-    /// At most 07777.
+    /// The 12 bits of chmod(2), 0 to 07777.
     pub value: u16,
-    /// The prefix `~`: cut by what an existing object permits.
+    /// Whether the prefix `~` was given: the mode is masked by the permissions that an existing object has.
     pub masked: bool,
-    /// The prefix `:`: only for new objects.
+    /// Whether the prefix `:` was given: the mode is only for new objects.
     pub new_only: bool,
 }
 
-/// An owner or an owning group as a line gives it.
+/// An owner or an owning group as a line gives it (tmpfiles.d(5), "User, Group").
 #[derive(Clone, Copy, PartialEq, Eq)]
 pub struct LineId {
-    /// At most 4294967294.
+    /// The UID or GID, at most 4294967294. A name was already looked up.
     pub id: u32,
-    /// The prefix `:`: only for new objects.
+    /// Whether the prefix `:` was given: the owner is only for new objects.
     pub new_only: bool,
 }
 
-/// What a line takes besides, by its type.
+/// The argument of a line, as the type of the line reads it (tmpfiles.d(5), "Argument").
 #[derive(Drop)]
 pub enum Argument {
-    /// The bytes of a new file, or of each where the line has `+`.
+    /// Types `f` and `F`: the content of the file, or `None` if the argument was omitted.
     FileBytes(Option<Bytes>),
-    /// Bytes to write.
+    /// Type `w`: the bytes to write.
     WriteBytes(Bytes),
-    /// The target of a link.
+    /// Type `L`: the target of the symbolic link, 1 to 4095 bytes without NUL. If the argument was omitted, it is the
+    /// path of the line below `/usr/share/factory`.
     Target(Bytes),
-    /// The path that is copied.
+    /// Type `C`: the path that is copied. If the argument was omitted, it is the path of the line below
+    /// `/usr/share/factory`.
     Source(TreePath),
-    /// The numbers of a device.
+    /// Types `c` and `b`: the major and the minor number of the device.
     Device { major: u32, minor: u32 },
-    /// ACL entries.
+    /// Types `a` and `A`: ACL entries (acl(5)).
     Entries(AclLine),
-    /// Extended attributes.
+    /// Types `t` and `T`: extended attributes (xattr(7)).
     Attrs(AttrList),
-    /// Letters.
+    /// Types `h` and `H`: file attribute flags, and whether they are added, taken away or set (chattr(1)).
     Letters { how: LetterHow, letters: LetterSet },
-    /// The type takes none.
+    /// All other types: they take no argument, and a given one is ignored.
     Ignored,
 }

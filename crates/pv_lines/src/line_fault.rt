@@ -11,58 +11,59 @@ use pv_text::{ExpandFault, FieldFault};
 use std::alloc::{AllocError, AllocFailed};
 use thiserror::Error;
 
-/// Why a text is not a line. Fields are judged from the left. A fault of running out of memory is always `Memory` itself.
+/// Why a text is not a line. `read_line` says which error comes first. Running out of memory is always `Memory`,
+/// never an error of a part.
 #[derive(Clone, Copy, Debug, Error)]
 pub enum LineFault {
-    /// It has no fields.
+    /// The line cannot be split into fields.
     #[error(transparent)]
     Field(FieldFault),
-    /// No type begins so.
+    /// The field Type is empty, or does not begin with the letter of a type.
     #[error("UnknownType")]
     UnknownType,
-    /// A modifier that the type does not take, or one twice.
+    /// The field Type has a modifier that the type does not take, or one modifier twice.
     #[error("BadModifier")]
     BadModifier,
-    /// A specifier of the path or of the argument has no value.
+    /// A specifier (such as `%b`) in the path or in the argument is unknown, or its value is not known.
     #[error(transparent)]
     Expand(ExpandFault),
-    /// The path, or that of a source or a target, is none.
+    /// The path of the line, its copy source or its link target is not valid.
     #[error(transparent)]
     Path(PathFault),
-    /// The pattern is none.
+    /// The pattern of the line is not valid.
     #[error(transparent)]
     Pattern(PatternFault),
-    /// The root, where the type or the modifier `$` does not allow it.
+    /// The path is the root or the pattern matches it, but the type or the modifier `$` does not allow this.
     #[error("RootPath")]
     RootPath,
-    /// The mode is none.
+    /// The mode is not one to five octal digits of at most 07777, after the prefixes `~` and `:`.
     #[error("BadMode")]
     BadMode,
-    /// The user is neither an ID that may be written nor a name that is found.
+    /// The user is neither a valid UID nor a name that the lookup knows.
     #[error("UnknownUser")]
     UnknownUser,
-    /// The group is neither an ID that may be written nor a name that is found.
+    /// The group is neither a valid GID nor a name that the lookup knows.
     #[error("UnknownGroup")]
     UnknownGroup,
-    /// The age is none.
+    /// The age is not valid.
     #[error(transparent)]
     Age(AgeFault),
-    /// The type needs an argument.
+    /// The type needs an argument and it is omitted, or it is empty and the type does not allow this.
     #[error("ArgumentNeeded")]
     ArgumentNeeded,
-    /// The argument is not Base64.
+    /// The modifier `~` was given, and the argument is not Base64.
     #[error("BadBase64")]
     BadBase64,
-    /// The argument does not give the numbers of a device.
+    /// The argument is not `MAJOR:MINOR` with two decimal numbers below 2^32.
     #[error("BadDevice")]
     BadDevice,
-    /// The argument does not give extended attributes.
+    /// The argument is not a list of `NAME=VALUE` words with allowed names and values, or a quote stays open.
     #[error("BadAttribute")]
     BadAttribute,
-    /// The argument does not give letters.
+    /// The argument has a byte that is not a file attribute flag, or it has no flag and not the sign `=`.
     #[error("BadLetter")]
     BadLetter,
-    /// The argument does not give ACL entries.
+    /// The argument is not a list of ACL entries.
     #[error(transparent)]
     Acl(AclFault),
     /// Memory ran out.

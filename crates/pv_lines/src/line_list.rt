@@ -9,7 +9,8 @@ use pv_path::Sequence;
 use std::alloc::{AllocError, Global};
 use std::marker::Model;
 
-/// Lines in some order, each as one that was read. Clauses see the list.
+/// A list of lines, each with parts that `read_line` can give (definition `IsLine`). In contracts, a value is the list
+/// of its lines.
 #[derive(Drop)]
 pub struct LineList {
     lines: Sequence<Line>,
@@ -29,7 +30,7 @@ impl Model for LineList {
 }
 
 impl LineList {
-    /// The empty list. It takes no memory.
+    /// Makes an empty list. The call does not allocate.
     pub fn new(alloc: Global) -> LineList
         ensures { result ≡ [] }
     {
@@ -38,7 +39,8 @@ impl LineList {
         }
     }
 
-    /// The list of lines that were read. It takes no memory.
+    /// Makes a list of lines. The parts of each must be some that `read_line` can give (definition `IsLine`). The call
+    /// does not allocate.
     pub fn of(lines: Sequence<Line>) -> LineList
         requires { AllByRecursion IsLine lines }
         ensures { result ≡ lines }
@@ -46,7 +48,9 @@ impl LineList {
         LineList { lines }
     }
 
-    /// Adds a line that was read at the end. After running out of memory the list is as before.
+    /// Adds a line at the end. Its parts must be some that `read_line` can give (definition `IsLine`).
+    ///
+    /// The only error is `AllocError`, and then the list is as before.
     pub fn push(&mut self, line: Line) -> Result<(), AllocError>
         requires { IsLine line }
         ensures ok { OnOk result (self.new ≡ self.old ++ line ∷ []) }
@@ -55,21 +59,21 @@ impl LineList {
         self.lines.push(line)
     }
 
-    /// How many lines there are. It takes no memory.
+    /// Returns the number of lines. The call does not allocate.
     pub fn len(&self) -> usize
         ensures { result ≡ length self.now }
     {
         self.lines.len()
     }
 
-    /// The line at an index counted from 0, or nothing past the end. It takes no memory.
+    /// Returns the line at index `i`, counted from 0, or `None` if `i` is past the end. The call does not allocate.
     pub fn get(&self, i: usize) -> Option<&Line>
         ensures { option_copied result ≡ slice_get self.now i }
     {
         self.lines.get(i)
     }
 
-    /// The lines as a slice.
+    /// Returns the lines as a slice. The call does not allocate.
     pub fn as_slice(&self) -> &[Line]
         ensures value { result.now ≡ self.now }
         ensures whole { AllByRecursion IsLine self.now }
@@ -77,7 +81,7 @@ impl LineList {
         self.lines.as_slice()
     }
 
-    /// The lines as a vector. It takes no memory.
+    /// Turns the list into a vector of its lines. The call does not allocate.
     pub fn into_vec(self) -> Vec<Line>
         ensures value { result.items ≡ self }
         ensures whole { AllByRecursion IsLine self }

@@ -15,14 +15,14 @@ use crate::types::Row;
 use pv_acl::{Names, written_id};
 use pv_age::{Age, parse_age};
 
-/// Whether all bytes are octal digits.
+/// Returns whether all bytes are octal digits.
 fn are_octal(text: &[u8]) -> bool
     ensures { result ≡ list_all (λ b. is_digit b 8) text.now }
 {
     text.iter().all(|byte| char::from(*byte).is_digit(8))
 }
 
-/// The number that at most five octal digits write.
+/// Reads the number that at most five octal digits write.
 fn octal_value(text: &[u8]) -> u16
     requires digits { list_all (λ b. is_digit b 8) text.now ≡ true }
     requires short { length text.now ≤ 5 }
@@ -35,7 +35,7 @@ fn octal_value(text: &[u8]) -> u16
     value
 }
 
-/// The mode that one to five octal digits write, or nothing.
+/// Reads a mode of one to five octal digits, or gives nothing.
 fn mode_value(text: &[u8]) -> Option<u16>
     ensures { result ≡ (if is_mode_text text.now then Some (digits_value 8 text.now) else None) }
 {
@@ -46,7 +46,7 @@ fn mode_value(text: &[u8]) -> Option<u16>
     if value <= 0o7777 { Some(value) } else { None }
 }
 
-/// The mode that a text spells behind prefixes, of which some have been read.
+/// Reads a mode with the prefixes `~` and `:`, of which some may have been read already.
 fn mode_after(masked: bool, new_only: bool, text: &[u8]) -> Option<LineMode>
     ensures { result ≡ mode_after masked new_only text.now }
 {
@@ -61,7 +61,7 @@ fn mode_after(masked: bool, new_only: bool, text: &[u8]) -> Option<LineMode>
     }
 }
 
-/// What the field Mode gives, or its fault. It takes no memory.
+/// Reads the field Mode, or gives its error. The call does not allocate.
 pub(crate) fn mode_of(field: Option<&[u8]>) -> Result<Option<LineMode>, LineFault>
     ensures { result ≡ mode_of (option_map (λ s. s.now) field.entry) }
 {
@@ -74,7 +74,7 @@ pub(crate) fn mode_of(field: Option<&[u8]>) -> Result<Option<LineMode>, LineFaul
     }
 }
 
-/// The ID of a user, or the user of a name.
+/// Reads a UID, or looks up the user of a name.
 fn uid_in<N: Names>(names: &N, text: &[u8]) -> Option<u32>
     ensures value { result ≡ id_or_name (N.uid_named names.now) text.now }
     ensures small { IfSome result (λ id. id ≤ 4294967294) }
@@ -82,7 +82,7 @@ fn uid_in<N: Names>(names: &N, text: &[u8]) -> Option<u32>
     written_id(text).or_else(|| names.uid_of(text))
 }
 
-/// The ID of a group, or the group of a name.
+/// Reads a GID, or looks up the group of a name.
 fn gid_in<N: Names>(names: &N, text: &[u8]) -> Option<u32>
     ensures value { result ≡ id_or_name (N.gid_named names.now) text.now }
     ensures small { IfSome result (λ id. id ≤ 4294967294) }
@@ -90,7 +90,7 @@ fn gid_in<N: Names>(names: &N, text: &[u8]) -> Option<u32>
     written_id(text).or_else(|| names.gid_of(text))
 }
 
-/// What stands behind the prefix `:`, and whether that stands there.
+/// Returns what follows the prefix `:`, and whether the prefix was given.
 fn without_colon(text: &[u8]) -> (&[u8], bool)
     ensures { (result.0.now, result.1) ≡ without_colon text.now }
 {
@@ -100,7 +100,7 @@ fn without_colon(text: &[u8]) -> (&[u8], bool)
     }
 }
 
-/// What the field User gives, or its fault. It takes no memory.
+/// Reads the field User, or gives its error. The call does not allocate.
 pub(crate) fn user_of<N: Names>(
     names: &N,
     field: Option<&[u8]>,
@@ -118,7 +118,7 @@ pub(crate) fn user_of<N: Names>(
     }
 }
 
-/// What the field Group gives, or its fault. It takes no memory.
+/// Reads the field Group, or gives its error. The call does not allocate.
 pub(crate) fn group_of<N: Names>(
     names: &N,
     field: Option<&[u8]>,
@@ -136,7 +136,7 @@ pub(crate) fn group_of<N: Names>(
     }
 }
 
-/// What the field Age gives where the type uses one, or its fault. It takes no memory.
+/// Reads the field Age if the type uses one, or gives its error. The call does not allocate.
 pub(crate) fn age_of(row: Row, field: Option<&[u8]>) -> Result<Option<Age>, LineFault>
     ensures { result ≡ line_age_of row (option_map (λ s. s.now) field.entry) }
 {

@@ -12,38 +12,40 @@ use pv_path::{Bytes, TreePath, parse_path};
 use pv_text::{Facts, Tool, expand};
 use std::alloc::Global;
 
-/// What a line names, with the text that names it.
+/// What the field Path names, with its text.
 #[derive(Drop)]
 pub(crate) struct Named {
+    /// The path or the pattern.
     pub path: LinePath,
-    /// The text, after specifiers and the rewriting of `/var/run/`.
+    /// The text of the path or pattern, after escapes were replaced, specifiers were expanded, and `/var/run/` at the
+    /// beginning was read as `/run/`.
     pub text: Bytes,
     /// Whether `/var/run/` was read as `/run/`.
     pub moved: bool,
 }
 
-/// A text with its specifiers expanded.
+/// Expands the specifiers of a text.
 pub(crate) fn expansion(alloc: Global, text: &[u8], facts: &Facts) -> Result<Bytes, LineFault>
     ensures { Gives result (expansion facts.now text.now) }
 {
     Ok(Bytes::from_vec(expand(alloc, text, facts, Tool::Tmpfiles)?))
 }
 
-/// Whether a text begins with the old name of `/run/`.
+/// Returns whether a text begins with `/var/run/`, the old name of `/run/`.
 fn is_moved(text: &[u8]) -> bool
     ensures { result ≡ is_moved text.now }
 {
     text.starts_with(b"/var/run/")
 }
 
-/// A text with `/run/` in the place of its old name.
+/// Returns a text in which `/var/run/` at the beginning is replaced by `/run/`.
 fn current(text: &[u8]) -> &[u8]
     ensures { result.now ≡ current text.now }
 {
     if is_moved(text) { &text[4..] } else { text }
 }
 
-/// What a text names by the type.
+/// Reads a path if the type creates objects, otherwise a pattern.
 fn path_named(alloc: Global, row: Row, text: &[u8]) -> Result<LinePath, LineFault>
     ensures { Gives result (path_named row text.now) }
 {
@@ -54,7 +56,7 @@ fn path_named(alloc: Global, row: Row, text: &[u8]) -> Result<LinePath, LineFaul
     }
 }
 
-/// Whether the root is named. It takes no memory.
+/// Returns whether the path is the root, or the pattern matches it. The call does not allocate.
 fn is_root(alloc: Global, path: &LinePath) -> bool
     ensures { result ≡ is_root path.now }
 {
@@ -64,7 +66,8 @@ fn is_root(alloc: Global, path: &LinePath) -> bool
     }
 }
 
-/// What is named, where the root is not, or may be.
+/// Returns the path or pattern. If it names the root, and the type or the modifier `$` does not allow this, returns the
+/// error.
 fn allowed(alloc: Global, typed: Typed, path: LinePath) -> Result<LinePath, LineFault>
     ensures { result ≡ allowed typed path }
 {
@@ -75,7 +78,7 @@ fn allowed(alloc: Global, typed: Typed, path: LinePath) -> Result<LinePath, Line
     }
 }
 
-/// What the field Path spells, or its first fault.
+/// Reads the field Path, or gives its first error.
 pub(crate) fn named_of(
     alloc: Global,
     text: &[u8],

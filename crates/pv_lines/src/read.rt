@@ -1,4 +1,4 @@
-//! From the bytes of a line to the line, or to its first fault.
+//! Reads a line from its bytes, or gives its first error.
 ghost use Rattle.std.specs.Prelude.{◌≡◌, map, Ok, Err, IfOk, IfErr, slice_get};
 ghost use Rattle.std.specs.Option.{option_map};
 ghost use Rattle.pv_text.specs.Escapes.{unescaped};
@@ -34,7 +34,7 @@ struct Settings {
     age: Option<Age>,
 }
 
-/// The fields of a line, with their escapes undone.
+/// Returns the fields of a line, with their escapes undone.
 fn texts_of(alloc: Global, fields: &Fields<'_>) -> Result<Vec<Bytes>, AllocError>
     ensures { IfOk result (λ texts. texts.items ≡ map (λ span. unescaped (text_at fields.now.line span)) fields.now.spans) }
 {
@@ -45,7 +45,7 @@ fn texts_of(alloc: Global, fields: &Fields<'_>) -> Result<Vec<Bytes>, AllocError
     Ok(texts)
 }
 
-/// The text of a field that has to be there; none counts as no bytes.
+/// Returns the text of a field that the line must have. A field that is not there counts as empty.
 fn text(texts: &[Bytes], i: usize) -> &[u8]
     ensures { result.now ≡ text texts.now i }
 {
@@ -55,7 +55,7 @@ fn text(texts: &[Bytes], i: usize) -> &[u8]
     }
 }
 
-/// The text of a field, or nothing if it is omitted.
+/// Returns the text of a field, or nothing if the field is omitted: not there, or a dash.
 fn given(texts: &[Bytes], i: usize) -> Option<&[u8]>
     ensures { option_map (λ s. s.now) result ≡ given texts.now i }
 {
@@ -65,8 +65,8 @@ fn given(texts: &[Bytes], i: usize) -> Option<&[u8]>
     }
 }
 
-/// What the fields Mode, User, Group and Age give, or their first fault, which is that of the line where the fields
-/// before them have none.
+/// Reads the fields Mode, User, Group and Age, or gives their first error. It is the error of the line if the fields
+/// before have none.
 fn settings_of<N: Names>(names: &N, typed: Typed, texts: &[Bytes]) -> Result<Settings, LineFault>
     ensures read { IfOk result (λ settings.
         (mode_of (given texts.now 2) ≡ Ok settings.mode)
@@ -87,7 +87,7 @@ fn settings_of<N: Names>(names: &N, typed: Typed, texts: &[Bytes]) -> Result<Set
     })
 }
 
-/// The line of these texts, or its first fault.
+/// Reads the line of these texts, or gives its first error.
 fn line_with<N: Names>(
     alloc: Global,
     texts: &[Bytes],
@@ -124,11 +124,28 @@ fn line_with<N: Names>(
     })
 }
 
-/// The line that a text spells at a place, or its first fault, field by field from the left in the order of
-/// `LineFault` (tmpfiles.d(5)).
+/// Reads one line of a configuration, field by field from the left (tmpfiles.d(5)).
+///
+/// - `line` is the line without its line feed: Type, Path, Mode, User, Group, Age, Argument. A field after Path that is
+///   not there, or is a dash, counts as omitted.
+/// - `place` is the location of the line, which the answer keeps.
+/// - `facts` has the values of specifiers such as `%m`.
+/// - `names` looks up the users and groups that the line names. For account files this is `FileNames` of pv_accounts.
+///
+/// The answer is the line, or the first error in this order:
+/// 1. `Field`, if the line cannot be split into fields.
+/// 2. Type: `UnknownType`, `BadModifier`.
+/// 3. Path: `Expand`, then `Path` or `Pattern`, then `RootPath`.
+/// 4. `BadMode`, `UnknownUser`, `UnknownGroup` and `Age`, in this order.
+/// 5. Argument: one of `ArgumentNeeded`, `Expand`, `BadBase64`, `Path`, `BadDevice`, `Acl`, `BadAttribute` and
+///    `BadLetter`, by what the type takes.
+///
+/// An age or an argument that the type does not take has no effect. It can only be the cause of the error `Field`.
+/// `Memory` comes if memory runs out, and then says nothing about the line.
 ///
 /// ```text
 /// let place = Place { file: OneLine::copy_of(alloc, b"app.conf")?, number: 1 };
+/// let names = FileNames { passwd: passwd_view(b""), group: group_view(b"") };
 /// let line = read_line(alloc, b"d /run/app 0750 7 8 10d", place, &Facts::new(alloc), &names)?;
 /// ```
 pub fn read_line<N: Names>(

@@ -9,23 +9,30 @@ use crate::types::{Row, type_of};
 /// A type with its modifiers.
 #[derive(Clone, Copy)]
 pub(crate) struct Typed {
+    /// What the type takes.
     pub row: Row,
+    /// Whether it has the modifier `+`, by itself or as the type `F`.
     pub plus: bool,
+    /// Whether it has the modifier `!`.
     pub boot: bool,
+    /// Whether it has the modifier `-`.
     pub minus: bool,
+    /// Whether it has the modifier `=`.
     pub replace: bool,
+    /// Whether it has the modifier `~`.
     pub encoded: bool,
+    /// Whether it has the modifier `$`.
     pub purge: bool,
 }
 
-/// Whether a modifier is among some.
+/// Returns whether a modifier is among some.
 fn has_mark(marks: &[u8], mark: u8) -> bool
     ensures { result ≡ has_mark marks.now mark }
 {
     marks.iter().any(|other| *other == mark)
 }
 
-/// Whether a type takes a modifier.
+/// Returns whether a type takes a modifier.
 fn takes(row: Row, mark: u8) -> bool
     ensures { result ≡ takes row mark }
 {
@@ -39,14 +46,14 @@ fn takes(row: Row, mark: u8) -> bool
     }
 }
 
-/// Whether a type takes each of some modifiers.
+/// Returns whether a type takes each of some modifiers.
 fn takes_all(row: Row, marks: &[u8]) -> bool
     ensures { result ≡ list_all (takes row) marks.now }
 {
     marks.iter().all(|mark| takes(row, *mark))
 }
 
-/// Whether each modifier stands once.
+/// Returns whether no modifier comes twice.
 fn stand_once(marks: &[u8]) -> bool
     ensures { result ≡ stand_once marks.now }
 {
@@ -60,7 +67,7 @@ fn stand_once(marks: &[u8]) -> bool
     true
 }
 
-/// A type with the modifiers that stand behind its letter.
+/// Returns a type with the modifiers that follow its letter.
 fn with_marks(row: Row, marks: &[u8]) -> Typed
     ensures { result ≡ with_marks row marks.now }
 {
@@ -75,7 +82,7 @@ fn with_marks(row: Row, marks: &[u8]) -> Typed
     }
 }
 
-/// What the field Type spells, or its fault. It takes no memory.
+/// Reads the field Type, or gives its error. The call does not allocate.
 pub(crate) fn typed_of(text: &[u8]) -> Result<Typed, LineFault>
     ensures { result ≡ typed_of text.now }
 {

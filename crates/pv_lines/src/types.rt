@@ -9,28 +9,28 @@ pub(crate) enum Wanted {
     Content,
     /// Bytes to write.
     Bytes,
-    /// The target of a link; omitted, the factory's.
+    /// The target of a link. If it is omitted, it is the path of the line below `/usr/share/factory`.
     Target,
-    /// The path that is copied; omitted, the factory's.
+    /// The path that is copied. If it is omitted, it is the path of the line below `/usr/share/factory`.
     Source,
-    /// The numbers of a device.
+    /// The major and the minor number of a device.
     Device,
     /// ACL entries.
     Entries,
     /// Extended attributes.
     Attrs,
-    /// Letters.
+    /// File attribute flags.
     Letters,
-    /// None: the object there is ignored.
+    /// The type takes no argument, and a given one is ignored.
     Nothing,
 }
 
-/// What a type takes. All take the modifiers `!` and `-`.
+/// What a type takes. All types take the modifiers `!` and `-`.
 #[derive(Clone, Copy)]
 pub(crate) struct Row {
-    /// The letter as which it is kept.
+    /// The `letter` of a `Line` of this type: `f` for the type `F`, otherwise the letter of the type itself.
     pub letter: u8,
-    /// Whether it is kept with the modifier `+`.
+    /// Whether lines of the type always have `plus`.
     pub always_plus: bool,
     /// Whether it takes `+`.
     pub plus: bool,
@@ -38,9 +38,9 @@ pub(crate) struct Row {
     pub replace: bool,
     /// Whether it takes `~`.
     pub encoded: bool,
-    /// Whether it takes `$`. Exactly the types that make an object at their path do.
+    /// Whether it takes `$`. Exactly the types that create an object at their path take it.
     pub creates: bool,
-    /// Whether the root is allowed.
+    /// Whether its path may be the root.
     pub root: bool,
     /// Whether it uses an age.
     pub ages: bool,
@@ -49,7 +49,7 @@ pub(crate) struct Row {
 }
 
 impl Row {
-    /// A type that makes an object at its path. It takes neither the root, an age nor an argument.
+    /// Makes the row of a type that creates an object at its path. It takes neither the root, an age nor an argument.
     fn creating(letter: u8) -> Row
         ensures { result ≡ creating letter }
     {
@@ -66,7 +66,7 @@ impl Row {
         }
     }
 
-    /// A type that adjusts or takes away what its pattern matches; it takes neither the root, an age
+    /// Makes the row of a type that adjusts or removes what its pattern matches. It takes neither the root, an age
     /// nor an argument.
     fn matching(letter: u8) -> Row
         ensures { result ≡ matching letter }
@@ -120,7 +120,7 @@ impl Row {
         }
     }
 
-    /// A type that makes a file with a content.
+    /// Makes the row of a type that creates a file with a content.
     fn file(letter: u8) -> Row
         ensures { result ≡ with_encoded (wanting Wanted.Content (creating letter)) }
     {
@@ -129,7 +129,7 @@ impl Row {
             .with_encoded()
     }
 
-    /// A type that gives ACL entries to what its pattern matches.
+    /// Makes the row of a type that gives ACL entries to what its pattern matches.
     fn entries(letter: u8) -> Row
         ensures { result ≡ with_root (with_plus (wanting Wanted.Entries (matching letter))) }
     {
@@ -140,7 +140,7 @@ impl Row {
     }
 }
 
-/// What the type of a letter takes, or nothing if there is no such type (tmpfiles.d(5)).
+/// Returns what the type of a letter takes, or nothing if there is no such type (tmpfiles.d(5)).
 pub(crate) fn type_of(letter: u8) -> Option<Row>
     ensures { result ≡ type_of letter }
 {

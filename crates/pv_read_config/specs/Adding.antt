@@ -3,7 +3,8 @@ use Rattle.std.specs.Prelude.{◌≡◌, ℕ, ◌+◌, ◌^◌, ◌<◌, ◌||�
 use Rattle.pv_read_config.specs.Configuration.{Configured, Reading}
 use Rattle.pv_read_config.specs.declared.configuration.Configuration.{Configuration}
 
--- from one configuration to another and from some messages to others by what was read; the number of lines fits 32 bits
+-- What was read is added to a configuration and to the messages: its lines, whether one is invalid, its count and its
+-- messages. Whether a FILE argument is missing does not change. If the count of lines was below 2^32, it still is.
 pub record Adds {L : Type 0} (reading : Reading L) (old new : Configuration L) (new_messages stated : List (List ℕ)) : Type 0 where
   pub lines : new.lines ≡ old.lines ++ reading.lines
   pub invalid : new.invalid ≡ (old.invalid || reading.invalid)
@@ -12,7 +13,7 @@ pub record Adds {L : Type 0} (reading : Reading L) (old new : Configuration L) (
   pub few : old.count < 2 ^ 32 → new.count < 2 ^ 32
   pub messages : stated ≡ new_messages ++ reading.messages
 
--- a configuration as it was to be read
+-- A configuration is the one that was to be read, and its count of lines is below 2^32.
 pub record Reads {L : Type 0} (wanted : Configured L) (c : Configuration L) : Type 0 where
   pub lines : c.lines ≡ wanted.lines
   pub invalid : c.invalid ≡ wanted.invalid

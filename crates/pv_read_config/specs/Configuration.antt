@@ -16,7 +16,7 @@ use Rattle.pv_text.specs.declared.tool.Tool.{Tool}
 
 -- ---- the lines of a file
 
--- the bytes of the file at a path; there are none where no file stands
+-- The bytes of the file at a path. If there is no file, there are none.
 abbrev pub content_at : Files → Path → List ℕ
 content_at files path = by (places files path)
   where
@@ -28,13 +28,13 @@ content_at files path = by (places files path)
     by (Some object) = of_kind object.node.kind object.payload
     by None = []
 
--- the lines of a content: each line feed ends a line, and what follows the last one is a line where
--- it is not empty
+-- The lines of a content. Each line feed ends a line. What follows the last line feed is a line only if it is not
+-- empty.
 abbrev pub lines_in : List ℕ → List (List ℕ)
 lines_in [] = []
 lines_in (b ∷ bytes) = if b == 10 then [] ∷ lines_in bytes else onto_first b (lines_in bytes)
 
--- a comment, whose first byte that is no blank is `#`, and a line of blanks alone
+-- Whether a line is skipped: its first byte that is not a blank is `#`, or it has only blanks.
 abbrev pub is_skipped : List ℕ → Bool
 is_skipped line = by (find (λ b. not (is_blank b)) line)
   where
@@ -44,8 +44,8 @@ is_skipped line = by (find (λ b. not (is_blank b)) line)
 
 -- ---- what is read
 
--- how a line of a tool's configuration is read that stands at a place: what it is read as, if it is not refused, and
--- what is said of it
+-- How a tool reads a line at a location (file and line): what the line spells, if it is valid, and the messages about
+-- it.
 pub record Reader (L : Type 0) : Type 0 where
   pub line_read : Place → List ℕ → Option L
   pub messages_for : Place → List ℕ → List (List ℕ)
@@ -53,19 +53,19 @@ pub record Reader (L : Type 0) : Type 0 where
 abbrev pub reader_of : {L : Type 0} → (Place → List ℕ → Option L) → (Place → List ℕ → List (List ℕ)) → Reader L
 reader_of line_read messages_for = record { line_read = line_read; messages_for = messages_for }
 
--- the lines that were read, whether a line was refused, what is said, and how many lines there were, skipped and
--- refused ones too
+-- What is read from some lines: the valid lines, whether one was invalid, the messages, and how many lines there
+-- were. Skipped and invalid lines are counted too.
 pub record Reading (L : Type 0) : Type 0 where
   pub lines : List L
   pub invalid : Bool
   pub messages : List (List ℕ)
   pub count : ℕ
 
--- there are no lines
+-- What is read from no lines.
 abbrev pub nothing : {L : Type 0} → Reading L
 nothing = record { lines = []; invalid = false; messages = []; count = 0 }
 
--- two readings, one after the other
+-- Two readings, one after the other.
 abbrev pub followed : {L : Type 0} → Reading L → Reading L → Reading L
 followed a b = record {
   lines = a.lines ++ b.lines;
@@ -74,34 +74,34 @@ followed a b = record {
   count = a.count + b.count;
 }
 
--- what a line gives that is not skipped
+-- What is read from a line that is not skipped. If it spells nothing, it is invalid.
 abbrev pub reading_by : {L : Type 0} → Option L → List (List ℕ) → Reading L
 reading_by read new_messages = record { lines = option_to_list read; invalid = is_none read; messages = new_messages; count = 1 }
 
--- what a line at a place gives
+-- What is read from a line at a location. A skipped line only adds to the count.
 abbrev pub reading_of : {L : Type 0} → Reader L → Place → List ℕ → Reading L
 reading_of reader place line =
     if is_skipped line then record { lines = []; invalid = false; messages = []; count = 1 }
     else reading_by (reader.line_read place line) (reader.messages_for place line)
 
--- what lines give, of which the first has this number in its file
+-- What is read from lines of a file, the first of which has this line number.
 abbrev pub reading_of_lines : {L : Type 0} → Reader L → List ℕ → ℕ → List (List ℕ) → Reading L
 reading_of_lines reader file number [] = nothing
 reading_of_lines reader file number (line ∷ lines) =
     followed (reading_of reader (record { file = file; number = number }) line) (reading_of_lines reader file (number + 1) lines)
 
--- what a file gives, whose lines are counted from 1
+-- What is read from a file. Its lines are counted from 1.
 abbrev pub reading_of_file : {L : Type 0} → Files → Reader L → Path → Reading L
 reading_of_file files reader path = reading_of_lines reader (printed_path path) 1 (lines_in (content_at files path))
 
--- what files give, one after the other
+-- What is read from files, one after another.
 abbrev pub reading_of_files : {L : Type 0} → Files → Reader L → List Path → Reading L
 reading_of_files files reader [] = nothing
 reading_of_files files reader (path ∷ paths) = followed (reading_of_file files reader path) (reading_of_files files reader paths)
 
 -- ---- the configuration
 
--- what was read, and whether a file word was not found
+-- What a run reads as its configuration. `missing` says whether a FILE argument was not found.
 pub record Configured (L : Type 0) : Type 0 where
   pub lines : List L
   pub invalid : Bool
@@ -109,7 +109,8 @@ pub record Configured (L : Type 0) : Type 0 where
   pub messages : List (List ℕ)
   pub count : ℕ
 
--- what is said of files and words comes before what is said of lines
+-- The configuration of chosen files and what was read from them. The messages about files come before those about
+-- lines.
 abbrev pub together : {L : Type 0} → Choice → Reading L → Configured L
 together choice reading = record {
   lines = reading.lines;
@@ -119,6 +120,6 @@ together choice reading = record {
   count = reading.count;
 }
 
--- the configuration of a tool in a tree, by the words of a run
+-- The configuration that a tool reads in a tree, with the FILE arguments of the run.
 abbrev pub configured_by : {L : Type 0} → Files → Reader L → Tool → List (List ℕ) → Configured L
 configured_by files reader tool words = together (chosen files tool words) (reading_of_files files reader (chosen files tool words).files)

@@ -1,4 +1,4 @@
--- How the lines of systemd-sysusers are read: by the facts of the image (sysusers.d(5)).
+-- How the lines of systemd-sysusers are read, with the facts of the image (sysusers.d(5)).
 use Rattle.std.specs.Prelude.{ℕ, List, [], ◌∷◌, Result, Ok, Err}
 use Rattle.std.specs.Result.{result_ok}
 use Rattle.pv_requests.specs.Faults.{name_of}
@@ -12,18 +12,18 @@ use Rattle.pv_text.specs.declared.place.Place.{Place}
 use Rattle.pv_text.specs.declared.tool.Tool.TheVariants.{Sysusers}
 use Rattle.pv_read_config.specs.Configuration.{Configured, Reader, configured_by}
 
--- what is said of a line: its fault, if it has one
+-- The messages about a line: its fault, if it has one.
 abbrev pub messages_for_request : Place → Result Request RequestFault → List (List ℕ)
 messages_for_request place (Err fault) = message_text_at place (name_of fault) ∷ []
 messages_for_request place (Ok request) = []
 
--- how lines are read
+-- How systemd-sysusers reads lines.
 abbrev pub requests_reader : Values → Reader Request
 requests_reader facts = record {
   line_read = λ place line. result_ok (request_of facts place line);
   messages_for = λ place line. messages_for_request place (request_of facts place line);
 }
 
--- the requests of a tree, by the words of a run
+-- The requests of systemd-sysusers in a tree, with the FILE arguments of the run.
 abbrev pub requested : Files → Values → List (List ℕ) → Configured Request
 requested files facts words = configured_by files (requests_reader facts) Sysusers words

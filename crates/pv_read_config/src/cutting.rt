@@ -1,11 +1,11 @@
-//! The lines of a content.
+//! Splits the content of a file into lines.
 ghost use Rattle.std.specs.Prelude.{◌≡◌, ◌==◌, ◌<◌, ◌≤◌, ◌∷◌, length};
 ghost use Rattle.std.specs.List.{position_or_len};
 ghost use Rattle.pv_read_config.specs.Configuration.{is_skipped, lines_in};
 
 use pv_text::is_blank;
 
-/// Whether a line is a comment or consists of blanks alone.
+/// Returns whether a line is skipped: it is a comment, or has only blanks.
 pub(crate) fn is_skipped(line: &[u8]) -> bool
     ensures { result ≡ is_skipped line.now }
 {
@@ -17,7 +17,7 @@ pub(crate) fn is_skipped(line: &[u8]) -> bool
     true
 }
 
-/// The place of the first line feed, or the end.
+/// Returns the index of the first line feed, or the length of the text if there is none.
 fn line_end(text: &[u8]) -> usize
     ensures value { result ≡ position_or_len (λ b. b == 10) text.now }
     ensures within { result ≤ length text.now }
@@ -25,7 +25,7 @@ fn line_end(text: &[u8]) -> usize
     text.iter().take_while(|byte| **byte != b'\n').count()
 }
 
-/// The first line of a content, and what follows its line feed.
+/// Splits a content into its first line and what follows the line feed.
 pub(crate) fn first_line(text: &[u8]) -> (&[u8], &[u8])
     requires { 0 < length text.now }
     ensures cut { lines_in text.now ≡ result.0.now ∷ lines_in result.1.now }

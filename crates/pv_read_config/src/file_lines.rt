@@ -1,4 +1,4 @@
-//! From the chosen files to their lines, with the messages of reading.
+//! Reads the lines of the chosen files, and adds the messages about them.
 ghost use Rattle.std.specs.Prelude.{◌≡◌, ◌+◌, ◌^◌, ◌<◌, ◌∷◌, ◌++◌, [], IfOk, OnOk, OnErr};
 ghost use Rattle.std.specs.List.{AllByRecursion};
 ghost use Rattle.pv_layers.specs.Choices.{chosen};
@@ -47,7 +47,7 @@ fn add_line<R: LineReader>(
     }
 }
 
-/// The number after one. A number past 32 bits counts as running out of memory.
+/// Adds one to a number. A number above 32 bits counts as running out of memory.
 fn next_number(number: u32) -> Result<u32, AllocError>
     ensures next { IfOk result (λ next. next ≡ number + 1) }
     ensures few { IfOk result (λ next. next < 2 ^ 32) }
@@ -82,7 +82,7 @@ fn add_lines<R: LineReader>(
     Ok(())
 }
 
-/// The bytes of the file at a path, or none where no file stands there.
+/// Returns the bytes of the regular file at a path. If there is no such file, it returns no bytes.
 pub(crate) fn content_at<'a, T: Tree>(tree: &'a T, path: &TreePath) -> &'a [u8]
     ensures { result.now ≡ content_at (T.state tree.now) path.now }
 {
@@ -145,9 +145,20 @@ fn add_files<T: Tree, R: LineReader>(
     Ok(())
 }
 
-/// Reads the configuration of a tool in a tree. Its lines are those of the files that the words name. If there are no
-/// words, they are those of the files in the folders of the tool. Messages on files and words come before messages on
-/// lines. More than 4294967295 lines count as running out of memory.
+/// Reads the configuration of a tool in a tree, with any reader of single lines.
+///
+/// - `reader` reads one line.
+/// - `words` name configuration files. If there are none, the files are those in the folders of the tool. The call
+///   `chosen_files` of pv_layers says which files these are, and which messages it adds.
+///
+/// Each file is read from its first line, which has the number 1, to its last. A line is skipped if it has only blanks,
+/// or if its first byte that is not a blank is `#`. A line that is not valid for the reader is left out, and sets
+/// `invalid`.
+///
+/// Messages about files and words come before messages about lines.
+///
+/// The error is `AllocError` if memory runs out, or if the files have more than 4294967295 lines. Then only some of
+/// these messages, a prefix of their list, were added.
 pub fn read_lines<T: Tree, R: LineReader>(
     alloc: Global,
     tree: &T,

@@ -14,14 +14,20 @@ ghost use Rattle.pv_read_config.specs.Inputs.{is_request_input};
 ghost use Rattle.pv_read_config.specs.Known.{configured};
 ghost use Rattle.pv_read_config.specs.Requested.{requested};
 
-/// The configuration of systemd-tmpfiles is the same for two trees with the same presence, kinds and payloads at input
-/// paths. The premise is that each word that begins with a slash is such a path, or not a path.
+/// States that the configuration of systemd-tmpfiles depends only on the presence, kinds and payloads of objects at
+/// input paths.
+///
+/// If two trees have the same of these at input paths, their configurations are the same. The premise is that each word
+/// that can be read as an absolute path is an input path.
 pub fn a_configuration_depends_on_input_paths()
     ensures { (t u : Files) (facts : Values) (words : List (List ℕ)) → SameContent is_input t u
         → AllByRecursion (IsPlain is_input) words → configured t facts words ≡ configured u facts words }
 {}
 
-/// Steps that bring, take away and rewrite nothing at input paths leave the configuration.
+/// States that steps leave the configuration of systemd-tmpfiles the same if they alter nothing at input paths.
+///
+/// To alter is to create, remove or rewrite the object at a path. The premise is that each word that can be read as an
+/// absolute path is an input path.
 pub fn steps_elsewhere_leave_the_configuration()
     ensures { (files : Files) (steps : List StepValue) (now : ℕ) (facts : Values) (words : List (List ℕ))
         → ((path : Path) → is_input path ≡ true → AllByRecursion (λ step. alters step path ≡ false) steps)
@@ -29,8 +35,12 @@ pub fn steps_elsewhere_leave_the_configuration()
         → configured (after_all files steps now) facts words ≡ configured files facts words }
 {}
 
-/// A run whose steps are outside of input paths leaves the configuration. It may move what has nothing below it to a
-/// place above them, as where it makes an absent `/run`.
+/// States that a run whose steps are outside of input paths leaves the configuration of systemd-tmpfiles the same.
+///
+/// Such a run may also move an object with nothing below it to a path above an input path, as when it makes an absent
+/// `/run`. The premises are:
+/// - Each step is possible and has an effect when it is done, and the tree is well-formed before and after it.
+/// - Each word that can be read as an absolute path is an input path.
 pub fn a_run_outside_leaves_the_configuration()
     ensures { (files : Files) (steps : List StepValue) (now : ℕ) (facts : Values) (words : List (List ℕ))
         → Along IsTree files steps now → AreOutside is_input files steps now
@@ -38,15 +48,17 @@ pub fn a_run_outside_leaves_the_configuration()
         → configured (after_all files steps now) facts words ≡ configured files facts words }
 {}
 
-/// The requests of systemd-sysusers are the same for two trees with the same presence, kinds and payloads in its
-/// folders of configuration files. The premise is that each word that begins with a slash is a path there, or not a
-/// path.
+/// States that the requests of systemd-sysusers depend only on the presence, kinds and payloads of objects in its
+/// folders.
+///
+/// If two trees have the same of these at and below the folders, their requests are the same. The premise is that each
+/// word that can be read as an absolute path is a path in the folders.
 pub fn requests_depend_on_their_folders()
     ensures { (t u : Files) (facts : Values) (words : List (List ℕ)) → SameContent is_request_input t u
         → AllByRecursion (IsPlain is_request_input) words → requested t facts words ≡ requested u facts words }
 {}
 
-/// Each request that is read has only names, IDs, paths and texts that are allowed.
+/// States that each request that is read has only names, IDs, paths and texts that are allowed (sysusers.d(5)).
 pub fn each_request_is_allowed()
     ensures { (files : Files) (facts : Values) (words : List (List ℕ)) → AllByRecursion IsAllowed (requested files facts words).lines }
 {}

@@ -1,4 +1,7 @@
-//! The configuration of a run: the lines of all files that it reads.
+//! Reads the configuration of a run: the lines of all files that the tool reads in a tree.
+//!
+//! The input paths are what a configuration depends on. They are the four folders of the tool with all that is below
+//! them. For systemd-tmpfiles they also include `/etc/passwd` and `/etc/group`.
 #![tactic(auto)]
 
 mod configuration;

@@ -1,25 +1,31 @@
-//! How one line of a configuration is read.
+//! The interface of readers of single lines.
 ghost use Rattle.std.specs.Prelude.{◌≡◌, ◌++◌, ℕ, List, Option, IfOk, IfSome, OnOk, OnErr};
 ghost use Rattle.pv_text.specs.declared.place.Place.{Place as PlaceValue};
 
 use pv_text::{Messages, Place};
 use std::alloc::{AllocError, Global};
 
-/// How the lines of a tool's configuration are read.
+/// A way to read one line of a configuration, such as that of systemd-tmpfiles.
 pub trait LineReader {
     /// What a line is read as.
     type Line: Drop;
 
-    /// What a line at a place is read as, or nothing if it is refused.
+    /// In contracts: what a line at a location is read as, or nothing if the line is not valid.
     ghost line_read: { Self → PlaceValue → List ℕ → Option Self.Line };
 
-    /// What is said of a line at a place.
+    /// In contracts: the messages about a line at a location.
     ghost messages_for: { Self → PlaceValue → List ℕ → List (List ℕ) };
 
-    /// What holds of each line that is read.
+    /// In contracts: what holds for each line that is read.
     ghost is_whole: { Self → Self.Line → Type 0 };
 
-    /// Reads the line that stands at a place, or nothing if it is refused, and says what there is to be said.
+    /// Reads a line, and adds the messages about it.
+    ///
+    /// - `line` is the line without its line feed.
+    /// - `place` is its location.
+    ///
+    /// The answer is the line, or `None` if it is not valid. The only error is `AllocError`, and then no message was
+    /// added.
     fn read(
         &self,
         alloc: Global,

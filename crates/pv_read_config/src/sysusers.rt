@@ -1,4 +1,4 @@
-//! How the lines of systemd-sysusers are read.
+//! Reads the lines of systemd-sysusers.
 ghost use Rattle.std.specs.Prelude.{◌≡◌, ◌≢◌, ◌∷◌, [], ◌++◌, ◌<◌, ◌^◌, IfOk, OnOk, OnErr};
 ghost use Rattle.std.specs.List.{AllByRecursion};
 ghost use Rattle.pv_text.specs.GivenMessages.{MessagesPart, message_text_at};
@@ -55,7 +55,7 @@ impl<'a> LineReader for SysusersReader<'a> {
     }
 }
 
-/// Says why a line is refused; running out of memory is no reason.
+/// Adds the message why a line is not valid. Running out of memory is not such a message, but an error.
 fn say_refused(
     place: &Place,
     fault: RequestFault,
@@ -71,10 +71,18 @@ fn say_refused(
     }
 }
 
-/// Reads the requests of systemd-sysusers in a tree. The lines are those of the files that the words name. If there are
-/// no words, they are those of the files in its folders. The lines are read by the facts. Messages on files and words
-/// come before messages on lines. More than 4294967295 lines, skipped and refused ones included, count as running out
-/// of memory.
+/// Reads the configuration of systemd-sysusers in a tree (sysusers.d(5)).
+///
+/// - `words` name configuration files. If there are none, the files are those in `/etc/sysusers.d`,
+///   `/run/sysusers.d`, `/usr/local/lib/sysusers.d` and `/usr/lib/sysusers.d`. The call `chosen_files` of pv_layers
+///   says which files these are.
+/// - `facts` has the values of specifiers such as `%m`.
+///
+/// A line that is not valid is left out. It sets `invalid` and gives the message `FILE:N: NAME`, with the name of its
+/// error, such as `BadId`. Messages about files and words come before messages about lines.
+///
+/// The error is `AllocError` if memory runs out, or if the files have more than 4294967295 lines, including those that
+/// are skipped or not valid. Then only some of these messages, a prefix of their list, were added.
 pub fn read_requests<T: Tree>(
     alloc: Global,
     tree: &T,

@@ -1,4 +1,4 @@
-//! How the lines of systemd-tmpfiles are read.
+//! Reads the lines of systemd-tmpfiles.
 ghost use Rattle.std.specs.Prelude.{◌≡◌, ◌≢◌, ◌∷◌, [], ◌++◌, ◌<◌, ◌^◌, IfOk, OnOk, OnErr};
 ghost use Rattle.std.specs.List.{AllByRecursion};
 ghost use Rattle.pv_text.specs.GivenMessages.{MessagesPart, message_text_at};
@@ -61,7 +61,7 @@ impl<'a> LineReader for TmpfilesReader<'a> {
     }
 }
 
-/// Says of a line that its path was rewritten, where it was.
+/// Adds the message that the path of a line was rewritten, if it was.
 fn say_moved(place: &Place, moved: bool, messages: &mut Messages) -> Result<(), AllocError>
     ensures ok { OnOk result (messages.new ≡ messages.old ++ moved_message place.now moved) }
     ensures err { OnErr result (messages.new ≡ messages.old) }
@@ -72,7 +72,7 @@ fn say_moved(place: &Place, moved: bool, messages: &mut Messages) -> Result<(), 
     messages.push_at(place, b"/var/run/ read as /run/")
 }
 
-/// Says why a line is refused; running out of memory is no reason.
+/// Adds the message why a line is not valid. Running out of memory is not such a message, but an error.
 fn say_refused(place: &Place, fault: LineFault, messages: &mut Messages) -> Result<(), AllocError>
     ensures known { OnOk result (fault ≢ LineFault.Memory) }
     ensures ok { OnOk result (messages.new ≡ messages.old ++ message_text_at place.now (name_of fault) ∷ []) }
@@ -84,7 +84,7 @@ fn say_refused(place: &Place, fault: LineFault, messages: &mut Messages) -> Resu
     }
 }
 
-/// The users and groups of the account files of a tree.
+/// Returns the users and groups of the account files of a tree.
 fn account_names<T: Tree>(alloc: Global, tree: &T) -> Result<FileNames<'_>, AllocError>
     ensures passwd { IfOk result (λ names. names.passwd ≡ content_at (T.state tree.now) passwd_path) }
     ensures group { IfOk result (λ names. names.group ≡ content_at (T.state tree.now) group_path) }
@@ -98,10 +98,23 @@ fn account_names<T: Tree>(alloc: Global, tree: &T) -> Result<FileNames<'_>, Allo
     })
 }
 
-/// Reads the configuration of systemd-tmpfiles in a tree. The lines are those of the files that the words name. If
-/// there are no words, they are those of the files in its folders. The lines are read by the facts, and by the users
-/// and groups of the tree's account files. Messages on files and words come before messages on lines. More than
-/// 4294967295 lines, skipped and refused ones included, count as running out of memory.
+/// Reads the configuration of systemd-tmpfiles in a tree (tmpfiles.d(5)).
+///
+/// - `words` name configuration files. If there are none, the files are those in `/etc/tmpfiles.d`,
+///   `/run/tmpfiles.d`, `/usr/local/lib/tmpfiles.d` and `/usr/lib/tmpfiles.d`. The call `chosen_files` of pv_layers
+///   says which files these are.
+/// - `facts` has the values of specifiers such as `%m`.
+///
+/// Users and groups are looked up in `/etc/passwd` and `/etc/group` of the tree. The name `root` always has the ID 0.
+///
+/// A line that is not valid is left out. It sets `invalid` and gives the message `FILE:N: NAME`, with the name of its
+/// error, such as `BadMode`. Messages about files and words come before messages about lines.
+///
+/// A valid line whose path begins with `/var/run/` is read with `/run/` instead. Its message is `FILE:N: /var/run/
+/// read as /run/`.
+///
+/// The error is `AllocError` if memory runs out, or if the files have more than 4294967295 lines, including those that
+/// are skipped or not valid. Then only some of these messages, a prefix of their list, were added.
 pub fn read_configuration<T: Tree>(
     alloc: Global,
     tree: &T,

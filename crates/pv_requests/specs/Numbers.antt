@@ -1,4 +1,4 @@
--- Where numbers of users and groups come from, and ranges of numbers (sysusers.d(5), "ID").
+-- Where the IDs of users and groups come from, and ranges of IDs (sysusers.d(5), "ID").
 use Rattle.std.specs.Prelude.{ℕ, Bool, true, false, ◌&&◌, ◌||◌, ◌==◌, nat_le, List, [], ◌∷◌, codes, Option, Some, None, option_and_then, option_map, Result, Ok, Err, if◌then◌else◌}
 use Rattle.std.specs.List.{slice_split}
 use Rattle.pv_acl.specs.Numbers.{written_id}
@@ -15,19 +15,19 @@ use Rattle.pv_requests.specs.declared.request.UserId.TheVariants as user
 use Rattle.pv_requests.specs.FieldTexts.{is_dash}
 use Rattle.pv_requests.specs.Names.{is_account_name}
 
--- the names of the account files
+-- The names of the account files in `/etc`.
 abbrev pub is_account_file : List ℕ → Bool
 is_account_file name =
     same_bytes name (codes "passwd") || same_bytes name (codes "group") || same_bytes name (codes "shadow") || same_bytes name (codes "gshadow")
 
--- the root, the directory of the account files, and these files, which give no numbers
+-- The root, `/etc` and the account files. They give no IDs.
 abbrev pub is_account_place : Path → Bool
 is_account_place [] = true
 is_account_place (directory ∷ []) = same_bytes directory (codes "etc")
 is_account_place (directory ∷ file ∷ []) = same_bytes directory (codes "etc") && is_account_file file
 is_account_place path = false
 
--- the path whose object gives numbers
+-- The path that a text spells, if its object may give IDs.
 abbrev pub path_in : List ℕ → Option Path
 path_in text = by (path_of text)
   where
@@ -35,11 +35,11 @@ path_in text = by (path_of text)
     by (Ok path) = if is_account_place path then None else Some path
     by (Err fault) = None
 
--- `-` or a number
+-- An ID that may be omitted: `-` or a number.
 abbrev pub number_or_dash : List ℕ → Option (Option ℕ)
 number_or_dash text = if is_dash text then Some None else option_map (λ n. Some n) (written_id text)
 
--- the primary group of a user: a number, or a name
+-- The primary group that a text spells: a number, or otherwise a name that a group may have.
 abbrev pub primary_in : List ℕ → Option Primary
 primary_in text = by (written_id text)
   where
@@ -47,46 +47,46 @@ primary_in text = by (written_id text)
     by (Some n) = Some (primary.Gid n)
     by None = if is_account_name text then Some (primary.Name text) else None
 
--- `ID:GID` and `ID:GROUP`, by what stands before the colon and after it
+-- What `ID:GID` or `ID:GROUP` spells, given the texts before and after the colon. The ID may be `-`.
 abbrev pub with_primary : List ℕ → List ℕ → Option UserId
 with_primary first second =
     option_and_then (λ uid. option_map (λ group. user.Primary uid group) (primary_in second)) (number_or_dash first)
 
--- `-` or a number, on a u line
+-- The ID of a `u` line: `-` or a number.
 abbrev pub plain_user_id : List ℕ → Option UserId
 plain_user_id text = if is_dash text then Some user.Auto else option_map (λ n. user.Number n) (written_id text)
 
--- the ID of a u line that is not a path, by what stands between colons
+-- The ID of a `u` line that is not a path, given the texts between its colons.
 abbrev pub user_id_by : List (List ℕ) → Option UserId
 user_id_by (text ∷ []) = plain_user_id text
 user_id_by (first ∷ second ∷ []) = with_primary first second
 user_id_by pieces = None
 
--- the ID of a u line: `-`, a number, a path, `ID:GID` or `ID:GROUP`
+-- The ID of a `u` line: `-`, a number, a path, `ID:GID` or `ID:GROUP`.
 abbrev pub user_id_in : List ℕ → Option UserId
 user_id_in text =
     if begins_with_slash text then option_map (λ path. user.Path path) (path_in text) else user_id_by (slice_split (λ b. b == 58) text)
 
--- `-` or a number, on a g line
+-- The ID of a `g` line: `-` or a number.
 abbrev pub plain_group_id : List ℕ → Option GroupId
 plain_group_id text = if is_dash text then Some group.Auto else option_map (λ n. group.Number n) (written_id text)
 
--- the ID of a g line: `-`, a number or a path
+-- The ID of a `g` line: `-`, a number or a path.
 abbrev pub group_id_in : List ℕ → Option GroupId
 group_id_in text =
     if begins_with_slash text then option_map (λ path. group.Path path) (path_in text)
     else plain_group_id text
 
--- two numbers, the first not greater
+-- Two numbers, if the first one is not greater than the second one.
 abbrev pub ordered : ℕ → ℕ → Option (ℕ × ℕ)
 ordered first last = if nat_le first last then Some (first, last) else None
 
--- the range of an r line, by what stands between dashes: a number, or two
+-- The range of an `r` line, given the texts between its dashes: one number, or two in order.
 abbrev pub range_by : List (List ℕ) → Option (ℕ × ℕ)
 range_by (text ∷ []) = option_map (λ n. (n, n)) (written_id text)
 range_by (first ∷ last ∷ []) = option_and_then (λ first. option_and_then (λ last. ordered first last) (written_id last)) (written_id first)
 range_by pieces = None
 
--- the range of an r line: `N` or `FROM-TO`
+-- The range of an `r` line: `N` or `FROM-TO`.
 abbrev pub range_in : List ℕ → Option (ℕ × ℕ)
 range_in text = range_by (slice_split (λ b. b == 45) text)

@@ -1,5 +1,5 @@
--- The request that a line of sysusers.d(5) spells, or its first fault: a missing field, specifiers from the left, then
--- names, IDs, ranges and texts.
+-- The request that a line of sysusers.d(5) spells, or its first fault. Faults are found in this order: the fields,
+-- the type, a missing field, specifiers from the left, names, IDs or ranges, and texts.
 use Rattle.std.specs.Prelude.{ℕ, Bool, true, false, ◌&&◌, List, codes, Result, Ok, Err, if◌then◌else◌}
 use Rattle.pv_path.specs.Names.{same_bytes}
 use Rattle.pv_path.specs.Results.{◌>>=◌, in_words, or_fault}
@@ -17,7 +17,7 @@ use Rattle.pv_requests.specs.declared.read.UserTexts.{UserTexts}
 use Rattle.pv_requests.specs.declared.request.Request.{Request}
 use Rattle.pv_requests.specs.declared.request.Request.TheVariants as request
 
--- the type that a text names
+-- The type that a text names: `u`, `u!`, `g`, `m` or `r`.
 abbrev pub type_of : List ℕ → Result LineType RequestFault
 type_of text =
     if same_bytes text (codes "u") then Ok (line.User false)
@@ -27,11 +27,12 @@ type_of text =
     else if same_bytes text (codes "r") then Ok line.Range
     else Err fault.BadType
 
--- a request, if there is no text after the shell
+-- A request, or the fault BadField if there is a field after the shell.
 abbrev pub ended : Bool → Request → Result Request RequestFault
 ended more request = if more then Err fault.BadField else Ok request
 
--- the texts of a u line
+-- The texts of a `u` line, with their specifiers expanded, or the first fault from the left. GECOS, home directory
+-- and shell may be omitted.
 abbrev pub user_texts : Values → Cut → Result UserTexts RequestFault
 user_texts facts cut =
     written facts cut 1 >>= (λ name.
@@ -41,11 +42,11 @@ user_texts facts cut =
     given facts cut 5 >>= (λ shell.
     Ok (record { name = name; id = id; gecos = gecos; home = home; shell = shell }))))))
 
--- whether an account may have these texts
+-- Whether an account may have these texts.
 abbrev pub are_account_texts : UserTexts → Bool
 are_account_texts texts = is_comment texts.gecos && is_place texts.home && is_place texts.shell
 
--- a u line of these texts
+-- The request of a `u` line with these texts, or its first fault: BadName, BadId, or BadField.
 abbrev pub user_with : Place → Bool → Bool → UserTexts → Result Request RequestFault
 user_with place locked more texts =
     if is_account_name texts.name then
@@ -54,45 +55,46 @@ user_with place locked more texts =
     else Err fault.BadField)
     else Err fault.BadName
 
--- a g line of this name and ID
+-- The request of a `g` line with this name and ID, or its first fault: BadName, BadId, or BadField.
 abbrev pub group_with : Place → Bool → List ℕ → List ℕ → Result Request RequestFault
 group_with place more name id =
     if is_account_name name then
     or_fault fault.BadId (group_id_in id) >>= (λ id. ended more (request.Group name id place))
     else Err fault.BadName
 
--- an m line of this user and group
+-- The request of an `m` line with this user and group, or its first fault: BadName, or BadField.
 abbrev pub member_with : Place → Bool → List ℕ → List ℕ → Result Request RequestFault
 member_with place more user group =
     if is_account_name user && is_account_name group then ended more (request.Member user group place) else Err fault.BadName
 
--- an r line of this name and range
+-- The request of an `r` line with this name, which must be a dash, and this range. Its faults are BadName, BadRange
+-- and BadField, in this order.
 abbrev pub range_with : Place → Bool → List ℕ → List ℕ → Result Request RequestFault
 range_with place more name range =
     if is_dash name then
     or_fault fault.BadRange (range_in range) >>= (λ numbers. ended more (request.Range numbers.0 numbers.1 place))
     else Err fault.BadName
 
--- the name and the ID of a line
+-- The name and the ID of a line, with their specifiers expanded, or the first fault.
 abbrev pub two_texts : Values → Cut → Result (List ℕ × List ℕ) RequestFault
 two_texts facts cut = written facts cut 1 >>= (λ name. written facts cut 2 >>= (λ id. Ok (name, id)))
 
--- the same where the ID may not be omitted
+-- The same for a line whose ID must not be omitted. Otherwise the fault is MissingField.
 abbrev pub two_needed : Values → Cut → Result (List ℕ × List ℕ) RequestFault
 two_needed facts cut = if is_dash (text cut 2) then Err fault.MissingField else two_texts facts cut
 
--- a line of a type
+-- The request of a line of this type, or its first fault.
 abbrev pub request_by : Values → Place → Cut → LineType → Result Request RequestFault
 request_by facts place cut (line.User locked) = user_texts facts cut >>= user_with place locked (has_more cut)
 request_by facts place cut line.Group = two_texts facts cut >>= (λ texts. group_with place (has_more cut) texts.0 texts.1)
 request_by facts place cut line.Member = two_needed facts cut >>= (λ texts. member_with place (has_more cut) texts.0 texts.1)
 request_by facts place cut line.Range = two_needed facts cut >>= (λ texts. range_with place (has_more cut) texts.0 texts.1)
 
--- a line with these fields
+-- The request of a line with these fields, or its first fault.
 abbrev pub request_in : Values → Place → Cut → Result Request RequestFault
 request_in facts place cut = type_of (text cut 0) >>= request_by facts place cut
 
--- the request that a line spells at a place, or its first fault
+-- The request that a line at a location (file and line) spells, or its first fault.
 abbrev pub request_of : Values → Place → List ℕ → Result Request RequestFault
 request_of facts place bytes =
     in_words (λ f. fault.Field f) (fields_of bytes) >>= (λ spans. request_in facts place (record { line = bytes; spans = spans }))

@@ -1,4 +1,4 @@
-//! The texts of the fields of a line.
+//! The texts of the fields of a line. Fields are counted from 0.
 ghost use Rattle.std.specs.Prelude.{◌≡◌, IfOk};
 ghost use Rattle.pv_text.specs.Escapes.{HasGoodEscapes};
 ghost use Rattle.pv_requests.specs.Faults.{Gives};
@@ -9,23 +9,23 @@ use pv_path::Bytes;
 use pv_text::{Facts, Fields, Tool, expand, unescape};
 use std::alloc::{AllocError, Global};
 
-/// The number of the field GECOS.
+/// The index of the field GECOS.
 pub(crate) const GECOS: usize = 3;
 
-/// The number of the field Home.
+/// The index of the field Home.
 pub(crate) const HOME: usize = 4;
 
-/// The number of the field Shell.
+/// The index of the field Shell.
 pub(crate) const SHELL: usize = 5;
 
-/// Whether a text is a dash, which stands for what is omitted.
+/// Returns whether a text is a dash, which stands for an omitted field.
 pub(crate) fn is_dash(text: &[u8]) -> bool
     ensures { result ≡ is_dash text.now }
 {
     text == b"-".as_slice()
 }
 
-/// The text of a field as it is written; one that is not there counts as a dash.
+/// Returns the text of a field as it is written. A field that is not there counts as a dash.
 fn raw_text<'a>(fields: &Fields<'a>, i: usize) -> &'a [u8]
     ensures value { result.now ≡ raw_text fields.now i }
     ensures checked { HasGoodEscapes result.now }
@@ -36,21 +36,21 @@ fn raw_text<'a>(fields: &Fields<'a>, i: usize) -> &'a [u8]
     }
 }
 
-/// The text of a field with its escapes undone.
+/// Returns the text of a field with its escapes undone.
 pub(crate) fn text(alloc: Global, fields: &Fields<'_>, i: usize) -> Result<Bytes, AllocError>
     ensures { IfOk result (λ read. read ≡ text fields.now i) }
 {
     Ok(Bytes::from_vec(unescape(alloc, raw_text(fields, i))?))
 }
 
-/// Whether there is text after the shell.
+/// Returns whether there is a field after Shell.
 pub(crate) fn has_more(fields: &Fields<'_>) -> bool
     ensures { result ≡ has_more fields.now }
 {
     fields.span(6).is_some()
 }
 
-/// The text of a field with its specifiers expanded.
+/// Returns the text of a field with its specifiers expanded.
 pub(crate) fn written(
     alloc: Global,
     facts: &Facts,
@@ -63,7 +63,7 @@ pub(crate) fn written(
     Ok(Bytes::from_vec(expand(alloc, text.as_slice(), facts, Tool::Sysusers)?))
 }
 
-/// The text of a field with its specifiers expanded; nothing if the field is omitted.
+/// Returns the text of a field with its specifiers expanded, or nothing if the field is omitted.
 pub(crate) fn given(
     alloc: Global,
     facts: &Facts,

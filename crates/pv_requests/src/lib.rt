@@ -1,4 +1,4 @@
-//! The lines of a configuration of systemd-sysusers: users, groups, members and ranges of numbers (sysusers.d(5)).
+//! Reads the lines of a sysusers.d(5) configuration: users, groups, members and ranges of numbers.
 #![tactic(auto)]
 
 mod field_texts;
@@ -15,5 +15,5 @@ pub use request::{GroupId, Primary, Request, UserId};
 pub use request_fault::{RequestFault, name_of};
 pub use same::is_same_user;
 
-/// Requests in listing order.
+/// A list of requests, in the order in which their lines are read.
 pub type RequestList = pv_path::Sequence<Request>;

@@ -1,4 +1,4 @@
-//! Where numbers of users and groups come from, and ranges of numbers.
+//! Reads where the numbers of users and groups come from, and ranges of numbers.
 ghost use Rattle.std.specs.Prelude.{◌≡◌, ◌==◌, Some, None, IfOk, if◌then◌else◌};
 ghost use Rattle.std.specs.List.{slice_split};
 ghost use Rattle.pv_requests.specs.Numbers.{group_id_in, plain_group_id, plain_user_id, is_account_file, is_account_place, number_or_dash, ordered, path_in, primary_in, range_in, user_id_by, user_id_in, with_primary};
@@ -11,7 +11,7 @@ use pv_acl::written_id;
 use pv_path::{Bytes, PathFault, TreePath, parse_path};
 use std::alloc::{AllocError, Global};
 
-/// Whether a name is that of an account file.
+/// Returns whether a name is that of an account file.
 fn is_account_file(name: &[u8]) -> bool
     ensures { result ≡ is_account_file name.now }
 {
@@ -21,7 +21,7 @@ fn is_account_file(name: &[u8]) -> bool
         || name == b"gshadow".as_slice()
 }
 
-/// Whether a path is the root, the directory of the account files, or one of these files.
+/// Returns whether a path is the root, /etc, or an account file in it.
 fn is_account_place(path: &TreePath) -> bool
     ensures { result ≡ is_account_place path.now }
 {
@@ -36,7 +36,7 @@ fn is_account_place(path: &TreePath) -> bool
     }
 }
 
-/// The path whose object gives numbers.
+/// Reads the path of an object whose numbers are taken, or gives nothing.
 fn path_in(alloc: Global, text: &[u8]) -> Result<Option<TreePath>, AllocError>
     ensures { IfOk result (λ found. found ≡ path_in text.now) }
 {
@@ -47,7 +47,7 @@ fn path_in(alloc: Global, text: &[u8]) -> Result<Option<TreePath>, AllocError>
     }
 }
 
-/// A path other than those of the account files.
+/// Refuses the root, /etc and the account files.
 fn other_place(path: TreePath) -> Option<TreePath>
     ensures { result ≡ (if is_account_place path then None else Some path) }
 {
@@ -58,7 +58,7 @@ fn other_place(path: TreePath) -> Option<TreePath>
     }
 }
 
-/// `-` or a number.
+/// Reads `-` or a number.
 fn number_or_dash(text: &[u8]) -> Option<Option<u32>>
     ensures { result ≡ number_or_dash text.now }
 {
@@ -69,7 +69,7 @@ fn number_or_dash(text: &[u8]) -> Option<Option<u32>>
     Some(Some(n))
 }
 
-/// The primary group of a user: a number, or a name.
+/// Reads the primary group of a user: a number or a name.
 fn primary_in(alloc: Global, text: &[u8]) -> Result<Option<Primary>, AllocError>
     ensures { IfOk result (λ found. found ≡ primary_in text.now) }
 {
@@ -83,7 +83,7 @@ fn primary_in(alloc: Global, text: &[u8]) -> Result<Option<Primary>, AllocError>
     }
 }
 
-/// `ID:GID` and `ID:GROUP`, by what stands before the colon and after it.
+/// Reads `UID:GID` or `UID:GROUP`, from what is before the colon and what is after it.
 fn with_primary(alloc: Global, first: &[u8], second: &[u8]) -> Result<Option<UserId>, AllocError>
     ensures { IfOk result (λ found. found ≡ with_primary first.now second.now) }
 {
@@ -96,7 +96,7 @@ fn with_primary(alloc: Global, first: &[u8], second: &[u8]) -> Result<Option<Use
     }
 }
 
-/// The ID of a u line that has no colon and is not a path.
+/// Reads the ID of a `u` line that has no colon and is not a path.
 fn plain_user_id(text: &[u8]) -> Option<UserId>
     ensures { result ≡ plain_user_id text.now }
 {
@@ -106,7 +106,7 @@ fn plain_user_id(text: &[u8]) -> Option<UserId>
     Some(UserId::Number(written_id(text)?))
 }
 
-/// The ID of a u line that is not a path.
+/// Reads the ID of a `u` line that is not a path.
 fn user_id_by(alloc: Global, text: &[u8]) -> Result<Option<UserId>, AllocError>
     ensures { IfOk result (λ found. found ≡ user_id_by (slice_split (λ b. b == 58) text.now)) }
 {
@@ -119,7 +119,7 @@ fn user_id_by(alloc: Global, text: &[u8]) -> Result<Option<UserId>, AllocError>
     }
 }
 
-/// The ID of a u line: `-`, a number, a path, `ID:GID` or `ID:GROUP`.
+/// Reads the ID of a `u` line: `-`, a number, a path, `UID:GID` or `UID:GROUP`.
 pub(crate) fn user_id_in(alloc: Global, text: &[u8]) -> Result<Option<UserId>, AllocError>
     ensures { IfOk result (λ found. found ≡ user_id_in text.now) }
 {
@@ -132,7 +132,7 @@ pub(crate) fn user_id_in(alloc: Global, text: &[u8]) -> Result<Option<UserId>, A
     }
 }
 
-/// The ID of a g line that is not a path.
+/// Reads the ID of a `g` line that is not a path.
 fn plain_group_id(text: &[u8]) -> Option<GroupId>
     ensures { result ≡ plain_group_id text.now }
 {
@@ -142,7 +142,7 @@ fn plain_group_id(text: &[u8]) -> Option<GroupId>
     Some(GroupId::Number(written_id(text)?))
 }
 
-/// The ID of a g line: `-`, a number or a path.
+/// Reads the ID of a `g` line: `-`, a number or a path.
 pub(crate) fn group_id_in(alloc: Global, text: &[u8]) -> Result<Option<GroupId>, AllocError>
     ensures { IfOk result (λ found. found ≡ group_id_in text.now) }
 {
@@ -155,7 +155,7 @@ pub(crate) fn group_id_in(alloc: Global, text: &[u8]) -> Result<Option<GroupId>,
     }
 }
 
-/// Two numbers, the first not greater.
+/// Returns two numbers if the first is not greater than the second.
 fn ordered(first: u32, last: u32) -> Option<(u32, u32)>
     ensures { result ≡ ordered first last }
 {
@@ -166,7 +166,7 @@ fn ordered(first: u32, last: u32) -> Option<(u32, u32)>
     }
 }
 
-/// The range of an r line: `N` or `FROM-TO`.
+/// Reads the range of an `r` line: `N` or `FROM-TO`.
 pub(crate) fn range_in(text: &[u8]) -> Option<(u32, u32)>
     ensures { result ≡ range_in text.now }
 {

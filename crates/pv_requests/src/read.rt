@@ -1,4 +1,4 @@
-//! From the bytes of a line to the request, or to its first fault.
+//! Reads a request from the bytes of a line, or gives its first error.
 ghost use Rattle.std.specs.Prelude.{◌≡◌, true, Bool, Ok, Err, IfOk, IfErr};
 ghost use Rattle.pv_text.specs.declared.place.Place.{Place};
 ghost use Rattle.pv_requests.specs.Allowed.{IsAllowed};
@@ -20,17 +20,17 @@ use std::alloc::Global;
 /// The type of a line (sysusers.d(5), "Type").
 #[derive(Clone, Copy)]
 pub enum LineType {
-    /// `u`, or `u!` where the account is locked.
+    /// `u`, or with `true` `u!`, by which the account is locked.
     User(bool),
-    /// `g`
+    /// `g`, a group.
     Group,
-    /// `m`
+    /// `m`, a member of a group.
     Member,
-    /// `r`
+    /// `r`, a range of numbers.
     Range,
 }
 
-/// The texts of a u line.
+/// The texts of a `u` line.
 #[derive(Drop)]
 pub struct UserTexts {
     name: Bytes,
@@ -40,7 +40,7 @@ pub struct UserTexts {
     shell: Option<Bytes>,
 }
 
-/// The type that a text names.
+/// Reads the type of a line.
 fn type_of(text: &[u8]) -> Result<LineType, RequestFault>
     ensures { result ≡ type_of text.now }
 {
@@ -54,7 +54,7 @@ fn type_of(text: &[u8]) -> Result<LineType, RequestFault>
     }
 }
 
-/// The texts of a u line.
+/// Returns the texts of a `u` line.
 fn user_texts(alloc: Global, facts: &Facts, fields: &Fields<'_>) -> Result<UserTexts, RequestFault>
     ensures { Gives result (user_texts facts.now fields.now) }
 {
@@ -67,14 +67,14 @@ fn user_texts(alloc: Global, facts: &Facts, fields: &Fields<'_>) -> Result<UserT
     })
 }
 
-/// Whether an account may have these texts.
+/// Returns whether an account may have these texts.
 fn are_account_texts(texts: &UserTexts) -> bool
     ensures { result ≡ are_account_texts texts.now }
 {
     is_comment(&texts.gecos) && is_place(&texts.home) && is_place(&texts.shell)
 }
 
-/// The user of these texts, whose number comes from there.
+/// Returns the user with these texts, whose UID comes from `id`.
 fn user_request(place: Place, locked: bool, id: UserId, texts: UserTexts) -> Request
     ensures { result ≡ User texts.name id locked texts.gecos texts.home texts.shell place }
 {
@@ -89,7 +89,7 @@ fn user_request(place: Place, locked: bool, id: UserId, texts: UserTexts) -> Req
     }
 }
 
-/// Where the number of the user comes from for whom a u line of these texts asks.
+/// Reads where the UID comes from that a `u` line of these texts asks for.
 fn asked_user_id(alloc: Global, more: bool, texts: &UserTexts) -> Result<UserId, RequestFault>
     ensures value { (place : Place) (locked : Bool) → IfOk result (λ id.
         user_with place locked more texts.now ≡ Ok (User texts.now.name id locked texts.now.gecos texts.now.home texts.now.shell place)) }
@@ -106,7 +106,7 @@ fn asked_user_id(alloc: Global, more: bool, texts: &UserTexts) -> Result<UserId,
     }
 }
 
-/// A u line of these texts.
+/// Reads a `u` line of these texts.
 fn user_with(
     alloc: Global,
     place: Place,
@@ -120,7 +120,7 @@ fn user_with(
     Ok(user_request(place, locked, id, texts))
 }
 
-/// Where the number of the group comes from for which a g line of this name and ID asks.
+/// Reads where the GID comes from that a `g` line of this name and ID asks for.
 fn asked_group_id(
     alloc: Global,
     more: bool,
@@ -141,7 +141,7 @@ fn asked_group_id(
     }
 }
 
-/// A g line of this name and ID.
+/// Reads a `g` line of this name and ID.
 fn group_with(
     alloc: Global,
     place: Place,
@@ -155,7 +155,7 @@ fn group_with(
     Ok(Request::Group { name, id, place })
 }
 
-/// An m line of this user and group.
+/// Reads an `m` line of this user and group.
 fn member_with(place: Place, more: bool, user: Bytes, group: Bytes) -> Result<Request, RequestFault>
     ensures { result ≡ member_with place more user group }
 {
@@ -169,7 +169,7 @@ fn member_with(place: Place, more: bool, user: Bytes, group: Bytes) -> Result<Re
     }
 }
 
-/// An r line of this name and range.
+/// Reads an `r` line of this name and range.
 fn range_with(
     place: Place,
     more: bool,
@@ -189,7 +189,7 @@ fn range_with(
     }
 }
 
-/// A u line.
+/// Reads a `u` line.
 fn user_of(
     alloc: Global,
     facts: &Facts,
@@ -203,7 +203,7 @@ fn user_of(
     user_with(alloc, place, locked, has_more(fields), texts)
 }
 
-/// The name and the ID of a line.
+/// Returns the name and the ID of a line.
 fn two_texts(
     alloc: Global,
     facts: &Facts,
@@ -216,7 +216,7 @@ fn two_texts(
     Ok((name, id))
 }
 
-/// The name and the ID of a line whose ID may not be omitted.
+/// Returns the name and the ID of a line whose ID may not be omitted.
 fn two_needed(
     alloc: Global,
     facts: &Facts,
@@ -230,7 +230,7 @@ fn two_needed(
     two_texts(alloc, facts, fields)
 }
 
-/// A g line.
+/// Reads a `g` line.
 fn group_of(
     alloc: Global,
     facts: &Facts,
@@ -243,7 +243,7 @@ fn group_of(
     group_with(alloc, place, has_more(fields), name, id)
 }
 
-/// An m line.
+/// Reads an `m` line.
 fn member_of(
     alloc: Global,
     facts: &Facts,
@@ -256,7 +256,7 @@ fn member_of(
     member_with(place, has_more(fields), user, group)
 }
 
-/// An r line.
+/// Reads an `r` line.
 fn range_of(
     alloc: Global,
     facts: &Facts,
@@ -269,7 +269,7 @@ fn range_of(
     range_with(place, has_more(fields), &name, &range)
 }
 
-/// A line of a type.
+/// Reads a line of a type.
 fn request_by(
     alloc: Global,
     facts: &Facts,
@@ -287,7 +287,7 @@ fn request_by(
     }
 }
 
-/// A line with these fields.
+/// Reads a line with these fields.
 fn request_in(
     alloc: Global,
     facts: &Facts,
@@ -300,8 +300,25 @@ fn request_in(
     request_by(alloc, facts, place, fields, typed)
 }
 
-/// The request that a text spells at a place, or its first fault in the order of `RequestFault`, specifiers from the
-/// left (sysusers.d(5)).
+/// Reads one line of a configuration (sysusers.d(5)).
+///
+/// - `line` is the line without its line feed: Type, Name, ID, GECOS, Home, Shell. A field after Name that is not
+///   there, or is a dash, counts as omitted.
+/// - `place` is the location of the line, which the answer keeps.
+/// - `facts` has the values of specifiers such as `%m`.
+///
+/// The answer is the request, or the first error in the order of `RequestFault`:
+/// 1. `Field`, then `BadType`.
+/// 2. `MissingField`, if the ID of an `m` or `r` line is omitted.
+/// 3. `Expand`, of the fields from the left.
+/// 4. `BadName`, then `BadId` or `BadRange`, then `BadField`.
+///
+/// Fields that a type does not use are not checked, except their quotes and escapes. A path from which the numbers are
+/// to be taken must not be the root, /etc or an account file, and must have no staging name. Otherwise the error is
+/// `BadId`. `Memory` comes if memory runs out, and then says nothing about the line.
+///
+/// For example, `u app 470 "An app" /var/lib/app` asks for the user `app` with the UID 470, a comment and a home
+/// directory.
 pub fn read_request(
     alloc: Global,
     line: &[u8],
@@ -310,7 +327,7 @@ pub fn read_request(
 ) -> Result<Request, RequestFault>
     ensures gives { Gives result (request_of facts.now place line.now) }
 
-    // A path that gives numbers is short, as the text that spells it is.
+    // A path that gives numbers has fewer than 2^32 names.
     ensures few { IfOk result HasFewNames }
     ensures allowed { IfOk result IsAllowed }
 {

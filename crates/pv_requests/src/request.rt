@@ -1,86 +1,85 @@
-//! A line as it was read: what it asks for, and where it stands (sysusers.d(5)).
+//! A line as it was read: what it asks for, and its location (sysusers.d(5)).
 use pv_path::{Bytes, TreePath};
 use pv_text::Place;
 
-/// A line of a configuration (sysusers.d(5), "Type").
+/// A line of a configuration, as it was read (sysusers.d(5), "Type").
 #[derive(Drop)]
 pub enum Request {
-    /// `u`, or `u!` where the account is locked: a user, and a group of the same name unless the ID names a primary
-    /// group.
+    /// The types `u` and `u!`: a user. It asks for a group of the same name too, unless the ID names a primary group.
     User {
         /// The name of the user.
         name: Bytes,
-        /// Where the number comes from.
+        /// Where the UID comes from.
         id: UserId,
-        /// Whether nobody may log in by the account at all.
+        /// Whether the type is `u!`: the account is locked, so that nobody can log in with it.
         locked: bool,
-        /// The full name or another comment, if one is given.
+        /// The full name or another comment, if one was given.
         gecos: Option<Bytes>,
-        /// The home directory, if one is given.
+        /// The home directory, if one was given.
         home: Option<Bytes>,
-        /// The login shell, if one is given.
+        /// The login shell, if one was given.
         shell: Option<Bytes>,
-        /// Where the line stands.
+        /// The location of the line: its file and its line number.
         place: Place,
     },
-    /// `g`: a group.
+    /// The type `g`: a group.
     Group {
         /// The name of the group.
         name: Bytes,
-        /// Where the number comes from.
+        /// Where the GID comes from.
         id: GroupId,
-        /// Where the line stands.
+        /// The location of the line: its file and its line number.
         place: Place,
     },
-    /// `m`: a user becomes a member of a group.
+    /// The type `m`: a user becomes a member of a group.
     Member {
         /// The name of the user.
         user: Bytes,
         /// The name of the group.
         group: Bytes,
-        /// Where the line stands.
+        /// The location of the line: its file and its line number.
         place: Place,
     },
-    /// `r`: numbers that may be given to new users and groups.
+    /// The type `r`: numbers that new users and groups may get.
     Range {
         /// The lowest number.
         first: u32,
         /// The highest number.
         last: u32,
-        /// Where the line stands.
+        /// The location of the line: its file and its line number.
         place: Place,
     },
 }
 
-/// Where the number of a user comes from (sysusers.d(5), "ID").
+/// Where the UID of a user comes from (sysusers.d(5), "ID").
 #[derive(Drop)]
 pub enum UserId {
-    /// `-`: from the numbers that are free.
+    /// `-`: a free number is chosen.
     Auto,
-    /// This number, which is that of the group of the same name too.
+    /// This number, as UID and as GID of the group of the same name. It is 0 to 4294967294, except 65535.
     Number(u32),
-    /// The owner and the owning group of the object at this path.
+    /// A path: the UID and the GID are those of the object at it.
     Path(TreePath),
-    /// `ID:GID` or `ID:GROUP`: this number or a free one, and a primary group.
+    /// `UID:GID` or `UID:GROUP`: this UID or, if it is `-`, a free one, and a primary group.
     Primary { uid: Option<u32>, group: Primary },
 }
 
 /// The primary group of a user (sysusers.d(5), "ID").
 #[derive(Drop)]
 pub enum Primary {
-    /// The group of this number.
+    /// The group with this GID.
     Gid(u32),
-    /// The group of this name.
+    /// The group with this name.
     Name(Bytes),
 }
 
-/// Where the number of a group comes from (sysusers.d(5), "ID").
+/// Where the GID of a group comes from (sysusers.d(5), "ID").
 #[derive(Drop)]
 pub enum GroupId {
-    /// `-`: from the numbers that are free.
+    /// `-`: a free number is chosen.
     Auto,
-    /// This number.
+    /// This number. It is 0 to 4294967294, except 65535.
     Number(u32),
-    /// The owning group of the object at this path.
+    /// A path: the GID is that of the object at it.
     Path(TreePath),
 }

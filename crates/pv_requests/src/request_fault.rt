@@ -7,32 +7,33 @@ use pv_text::{ExpandFault, FieldFault};
 use std::alloc::{AllocError, AllocFailed};
 use thiserror::Error;
 
-/// Why a text is not a line of sysusers.d(5), in the order in which the checks are made. A fault of running out of memory is
-/// always `Memory` itself.
+/// Why a text is not a line of sysusers.d(5), in the order in which the checks are made. Running out of memory is
+/// always `Memory`, never an error of a part.
 #[derive(Clone, Copy, Debug, PartialEq, Eq, Error)]
 pub enum RequestFault {
-    /// It has no fields.
+    /// The line cannot be split into fields.
     #[error("{0}")]
     Field(FieldFault),
-    /// The type is none of `u`, `u!`, `g`, `m` and `r`.
+    /// The type is not one of `u`, `u!`, `g`, `m` and `r`.
     #[error("BadType")]
     BadType,
-    /// The ID of an m or an r line is omitted.
+    /// The field ID of an `m` or `r` line is omitted.
     #[error("MissingField")]
     MissingField,
-    /// A specifier has no value.
+    /// A specifier (such as `%b`) is unknown, or its value is not known.
     #[error("{0}")]
     Expand(ExpandFault),
-    /// A user or a group can't have this name, or an r line has one.
+    /// A user or a group cannot have this name, or an `r` line has one.
     #[error("BadName")]
     BadName,
-    /// The ID of a u or a g line is none.
+    /// The ID of a `u` or `g` line is not valid. It can be `-`, a number or an allowed path, and on a `u` line also
+    /// `UID:GID` or `UID:GROUP`.
     #[error("BadId")]
     BadId,
-    /// The ID of an r line is neither a number nor two in order.
+    /// The field ID of an `r` line is neither a number nor two numbers in order, such as `500-900`.
     #[error("BadRange")]
     BadRange,
-    /// An account can't have this full name, home directory or shell, or there is text after the shell.
+    /// The account cannot have this comment, home directory or shell, or there is a field after Shell.
     #[error("BadField")]
     BadField,
     /// Memory ran out.
@@ -67,7 +68,10 @@ impl From<ExpandFault> for RequestFault {
     }
 }
 
-/// The name of a fault, as messages print it: that of the innermost fault, without places. It takes no memory.
+/// Returns the name of an error as messages print it, such as `BadType`.
+///
+/// An error may wrap that of a part: splitting into fields, or expanding a specifier. Then the name is that of the
+/// inner error, such as `TooFew`. The name has no index in it. The call does not allocate.
 pub fn name_of(fault: RequestFault) -> &'static [u8]
     ensures { result.now ≡ name_of fault }
 {

@@ -1,10 +1,11 @@
-//! Whether two requests ask for the same, wherever they stand.
+//! Whether two requests ask for the same, wherever their lines are.
 ghost use Rattle.std.specs.Prelude.{◌≡◌};
 ghost use Rattle.pv_requests.specs.Same.{same_number, same_primary, same_text, same_user, same_user_id};
 
 use crate::request::{Primary, Request, UserId};
 use pv_path::Bytes;
 
+/// Returns whether two optional texts are the same.
 fn is_same_text(a: &Option<Bytes>, b: &Option<Bytes>) -> bool
     ensures { result ≡ same_text a.now b.now }
 {
@@ -17,6 +18,7 @@ fn is_same_text(a: &Option<Bytes>, b: &Option<Bytes>) -> bool
     }
 }
 
+/// Returns whether two optional numbers are the same.
 fn is_same_number(a: Option<u32>, b: Option<u32>) -> bool
     ensures { result ≡ same_number a b }
 {
@@ -29,6 +31,7 @@ fn is_same_number(a: Option<u32>, b: Option<u32>) -> bool
     }
 }
 
+/// Returns whether two primary groups are the same.
 fn is_same_primary(a: &Primary, b: &Primary) -> bool
     ensures { result ≡ same_primary a.now b.now }
 {
@@ -44,6 +47,7 @@ fn is_same_primary(a: &Primary, b: &Primary) -> bool
     }
 }
 
+/// Returns whether two UIDs come from the same.
 fn is_same_user_id(a: &UserId, b: &UserId) -> bool
     ensures { result ≡ same_user_id a.now b.now }
 {
@@ -70,7 +74,10 @@ fn is_same_user_id(a: &UserId, b: &UserId) -> bool
     }
 }
 
-/// Whether two u lines ask for the same, wherever they stand.
+/// Returns whether two requests are for the same user with the same settings, wherever their lines are.
+///
+/// The answer is `true` if both are of the type `u` or `u!`, and all fields except the location are equal. For any
+/// other pair it is `false`. The call does not allocate.
 pub fn is_same_user(a: &Request, b: &Request) -> bool
     ensures { result ≡ same_user a.now b.now }
 {

@@ -1,5 +1,5 @@
 -- What takes paths away leaves what lines are read from, where none of the lines may change what is read there.
-use Rattle.std.specs.Prelude.{◌≡◌, ℕ, ◌+◌, ◌-◌, ◌<◌, ◌≤◌, ◌⊎◌, Bool, true, false, ◌&&◌, ◌||◌, List, length, take, drop, Option, Some, None, option_map}
+use Rattle.std.specs.Prelude.{◌≡◌, ℕ, ◌+◌, ◌-◌, ◌<◌, ◌≤◌, ◌⊎◌, Bool, true, false, ◌&&◌, ◌||◌, List, length, take, Option, Some, None, option_map}
 use Rattle.std.proofs.Common.{refl, sym, ap, ◌∙◌, arith, inl, inr}
 use Rattle.std.proofs.lemmas.Bool.{or_right, and_from}
 use Rattle.std.proofs.lemmas.List.{take_all}
@@ -9,10 +9,8 @@ use Rattle.std.specs.List.{list_any}
 use Rattle.pv_lines.specs.declared.line.Line.{Line}
 use Rattle.pv_path.specs.Paths.{has_names, Path, is_prefix}
 use Rattle.pv_steps.specs.declared.object.Object.{Object, Object}
-use Rattle.pv_steps.specs.declared.step.Step.{Step}
 use Rattle.pv_steps.specs.Content.{content_of}
 use Rattle.pv_steps.specs.Objects.{object_state}
-use Rattle.pv_steps.specs.Runs.{after_all, Ran}
 use Rattle.pv_steps.specs.Trees.{Files, places}
 use Rattle.pv_walk.specs.Edits.{Pruned}
 use Rattle.pv_walk.proofs.RemovalLaws.{zero_or_more}
@@ -20,7 +18,7 @@ use Rattle.pv_table.specs.declared.reason.Reason.TheVariants as reason
 use Rattle.pv_table.specs.Reaching.{governs, is_creating, names, names_above, path_in, reaches_below}
 use Rattle.pv_table.specs.Repeatable.{HasReason, IsAt, changes_content}
 use Rattle.pv_layers.specs.Places.{is_input}
-use Rattle.pv_table.proofs.GoingLaws.{in_range, told_prefix}
+use Rattle.pv_table.proofs.GoingLaws.{in_range}
 
 content-object_state : (o : Option Object) → content_of o ≡ content_of (option_map object_state o)
 content-object_state None = refl
@@ -33,11 +31,6 @@ same_content x y e = content-object_state x ∙ ap content_of e ∙ sym (content
 module _ (goes : Path → Bool) (t : Files) where
   pub kept_content : (u : Files) (q : Path) → Pruned goes t u → goes q ≡ false → content_of (places u q) ≡ content_of (places t q)
   kept_content u q pruned stays = same_content (places u q) (places t q) (pruned.outside q stays)
-
-  -- so after each number of the steps of a run
-  pub kept_on_run : (Q : Step → Type 0) (now : ℕ) (h : List Step) (u : Files) (k : List Step) → Ran (Pruned goes t) Q now t h u k
-      → (n : ℕ) (q : Path) → goes q ≡ false → content_of (places (after_all t (take n (drop (length h) k)) now) q) ≡ content_of (places t q)
-  kept_on_run Q now h u k run n q = kept_content (after_all t (take n (drop (length h) k)) now) q (told_prefix (Pruned goes t) Q now t h u k run n)
 
 -- a line may change what is read from a path
 pub record MayChange (line : Line) (q : Path) : Type 0 where

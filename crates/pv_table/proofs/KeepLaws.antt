@@ -10,9 +10,9 @@ use Rattle.pv_lines.specs.declared.line.Line.{Line}
 use Rattle.pv_lines.specs.declared.line.LinePath.TheVariants.{Literal, Glob}
 use Rattle.pv_path.specs.Paths.{Path, same_path, same_path-decides}
 use Rattle.pv_table.specs.Active.{active, are_distinct, make_same, stays, with_line}
-use Rattle.pv_table.specs.Building.{IsIndexOf, first_place, makes}
+use Rattle.pv_table.specs.Building.{IsIndexOf, first_index, makes}
 use Rattle.pv_table.specs.Reaching.{is_creating, path_in}
-use Rattle.pv_table.proofs.PlaceLaws.{first_place-none, first_place-push, found, missing, option_or-none}
+use Rattle.pv_table.proofs.PlaceLaws.{first_index-none, first_index-push, found, missing, option_or-none}
 use Rattle.pv_path.proofs.Tests.{list_any-find}
 
 -- ---- the line that makes the same
@@ -33,10 +33,10 @@ pub find-glob : (kept : List Line) (line : Line) (pattern : Pattern) → line.pa
 find-glob kept line pattern is = none_like kept line (rw is refl)
 
 -- the first line that makes the object at a path stands at the place of the index
-pub find-at : (kept : List Line) (path : Path) (i : ℕ) → first_place (makes path) kept ≡ Some i → find (makes path) kept ≡ slice_get kept i
+pub find-at : (kept : List Line) (path : Path) (i : ℕ) → first_index (makes path) kept ≡ Some i → find (makes path) kept ≡ slice_get kept i
 find-at kept path i at = let w = found (makes path) kept i at in w.1.0
 
-pub find-missing : (kept : List Line) (path : Path) → first_place (makes path) kept ≡ None → find (makes path) kept ≡ None
+pub find-missing : (kept : List Line) (path : Path) → first_index (makes path) kept ≡ None → find (makes path) kept ≡ None
 find-missing kept path at = let w = missing (makes path) kept at in w.1
 
 -- ---- a line more
@@ -50,24 +50,24 @@ with_line-dropped kept line first some = let like : list_any (λ first. make_sam
 -- the index with a line more that makes what none of them makes
 pub index-push : (kept : List Line) (look more : Path → Option ℕ) (line : Line) → IsIndexOf kept look → find (λ first. make_same first line) kept ≡ None
     → ((q : Path) → more q ≡ cond (makes q line) (Some (length kept)) (look q)) → IsIndexOf (kept ++ line ∷ []) more
-index-push kept look more line index none step = λ q. step q ∙ by_test q (is_creating line) refl (same_path (path_in line.path) q) refl ∙ sym (first_place-push (makes q) kept line)
+index-push kept look more line index none step = λ q. step q ∙ by_test q (is_creating line) refl (same_path (path_in line.path) q) refl ∙ sym (first_index-push (makes q) kept line)
   where
-    at_end : (q : Path) → first_place (makes q) kept ≡ None → Some (length kept) ≡ option_or (first_place (makes q) kept) (Some (length kept))
+    at_end : (q : Path) → first_index (makes q) kept ≡ None → Some (length kept) ≡ option_or (first_index (makes q) kept) (Some (length kept))
     at_end q is = rw is refl
 
-    as_before : (q : Path) → look q ≡ option_or (first_place (makes q) kept) None
-    as_before q = index q ∙ option_or-none (first_place (makes q) kept)
+    as_before : (q : Path) → look q ≡ option_or (first_index (makes q) kept) None
+    as_before q = index q ∙ option_or-none (first_index (makes q) kept)
 
-    no_one : (q : Path) → is_creating line ≡ true → path_in line.path ≡ q → first_place (makes q) kept ≡ None
+    no_one : (q : Path) → is_creating line ≡ true → path_in line.path ≡ q → first_index (makes q) kept ≡ None
     no_one q creates own =
         let tests : (λ first. make_same first line) ≡ makes q = λ j first. (make_same-makes line first creates ∙ ap (λ (p : Path). makes p first) own) j in
         let other : list_any (makes q) kept ≡ false =
         sym (ap (λ (test : Line → Bool). list_any test kept) tests) ∙ list_any-find (λ first. make_same first line) kept ∙ ap is_some none
         in
-        first_place-none (makes q) kept other
+        first_index-none (makes q) kept other
 
     by_test : (q : Path) (b : Bool) → is_creating line ≡ b → (t : Bool) → same_path (path_in line.path) q ≡ t
-        → cond (makes q line) (Some (length kept)) (look q) ≡ option_or (first_place (makes q) kept) (cond (makes q line) (Some (length kept)) None)
+        → cond (makes q line) (Some (length kept)) (look q) ≡ option_or (first_index (makes q) kept) (cond (makes q line) (Some (length kept)) None)
     by_test q true e true s = rw (e, s) (at_end q (no_one q e ((same_path-decides (path_in line.path) q).0 s)))
     by_test q true e false s = rw (e, s) (as_before q)
     by_test q false e t s = rw e (as_before q)

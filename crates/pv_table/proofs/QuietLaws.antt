@@ -33,7 +33,7 @@ use Rattle.pv_table.specs.declared.action.Adjustment.{Adjustment}
 use Rattle.pv_table.specs.Active.{in_create_order}
 use Rattle.pv_table.specs.ActionTable.{action_of, id_for_new}
 use Rattle.pv_text.specs.GivenMessages.{message_text_at}
-use Rattle.pv_table.specs.Created.{IsQuiet, by_line, by_turn, created, created_messages}
+use Rattle.pv_table.specs.Created.{RefusesNoLine, by_line, by_turn, created, created_messages}
 use Rattle.pv_steps.specs.Doing.{Doing, after_each, one_is_refused, messages_for_each}
 use Rattle.pv_table.specs.Effects.{adjusted, as_object_state, become, carried_out, is_adjusted, prepare, put_paths, restamped, same_object_state, adjust_at, turn_after, turned, turns}
 use Rattle.pv_table.specs.Reaching.{names, path_in}
@@ -477,8 +477,8 @@ created_alike lines now later t u alike = each_after (by_line now) (by_line late
 pub messages_alike : (lines : List Line) (now later : ℕ) (t u : Files) → Alike (places t) (places u) → created_messages lines now t ≡ created_messages lines later u
 messages_alike lines now later t u alike = each_says (by_line now) (by_line later) (line_timeless now later) (in_create_order lines) t u alike
 
-pub quiet_alike : (lines : List Line) (now later : ℕ) (t u : Files) → Alike (places t) (places u) → IsQuiet lines now t → IsQuiet lines later u
+pub quiet_alike : (lines : List Line) (now later : ℕ) (t u : Files) → Alike (places t) (places u) → RefusesNoLine lines now t → RefusesNoLine lines later u
 quiet_alike lines now later t u alike quiet = sym (each_refuses (by_line now) (by_line later) (line_timeless now later) (in_create_order lines) t u alike) ∙ quiet
 
-pub quiet_at_any_moment : (lines : List Line) (now later : ℕ) (t : Files) → IsQuiet lines now t → IsQuiet lines later t
+pub quiet_at_any_moment : (lines : List Line) (now later : ℕ) (t : Files) → RefusesNoLine lines now t → RefusesNoLine lines later t
 quiet_at_any_moment lines now later t quiet = quiet_alike lines now later t t (λ q. refl) quiet

@@ -18,7 +18,7 @@ use Rattle.pv_path.proofs.PathLaws.{is_prefix-refl, is_prefix-trans, prefix_whol
 use Rattle.pv_lines.specs.declared.line.Line.{Line}
 use Rattle.pv_table.specs.Active.{Listed, are_distinct, make_same, placed}
 use Rattle.pv_table.specs.Reaching.{is_creating, path_in}
-use Rattle.pv_table.specs.Building.{first_place}
+use Rattle.pv_table.specs.Building.{first_index}
 use Rattle.pv_table.specs.Ranking.{Rank, first_under, makes_under, rank_cmp, rank_of, with_rank}
 use Rattle.pv_path.proofs.Tests.{next_item}
 
@@ -30,9 +30,9 @@ pub record IsFirst {A : Type 0} (test : A → Bool) (xs : List A) (i : ℕ) : Ty
   pub there : slice_get xs i ≡ Some item
   pub passes : test item ≡ true
 
-pub first_place-passes : {A : Type 0} (test : A → Bool) (xs : List A) (i : ℕ) → first_place test xs ≡ Some i → IsFirst test xs i
-first_place-passes test [] i e = cc
-first_place-passes {A} test (x ∷ xs) i e = by_test (first_place-passes test xs) (test x) refl e
+pub first_index-passes : {A : Type 0} (test : A → Bool) (xs : List A) (i : ℕ) → first_index test xs ≡ Some i → IsFirst test xs i
+first_index-passes test [] i e = cc
+first_index-passes {A} test (x ∷ xs) i e = by_test (first_index-passes test xs) (test x) refl e
   where
     later : (k : ℕ) → IsFirst test xs k → IsFirst test (x ∷ xs) (suc k)
     later k w = record { item = w.item; there = w.there; passes = w.passes }
@@ -41,24 +41,24 @@ first_place-passes {A} test (x ∷ xs) i e = by_test (first_place-passes test xs
     here zero t h = record { item = x; there = refl; passes = t }
     here (suc j) t h = cc
 
-    below : ((k : ℕ) → first_place test xs ≡ Some k → IsFirst test xs k) → (i : ℕ) (o : Option ℕ) → first_place test xs ≡ o → option_map suc o ≡ Some i → IsFirst test (x ∷ xs) i
+    below : ((k : ℕ) → first_index test xs ≡ Some k → IsFirst test xs k) → (i : ℕ) (o : Option ℕ) → first_index test xs ≡ o → option_map suc o ≡ Some i → IsFirst test (x ∷ xs) i
     below rest i None s h = cc
     below rest zero (Some k) s h = cc
     below rest (suc j) (Some k) s h = later j (let same : k ≡ j = cc in rest j (s ∙ ap (λ (n : ℕ). Some n) same))
 
-    by_test : ((k : ℕ) → first_place test xs ≡ Some k → IsFirst test xs k) → (b : Bool) → test x ≡ b → cond b (Some 0) (option_map suc (first_place test xs)) ≡ Some i → IsFirst test (x ∷ xs) i
+    by_test : ((k : ℕ) → first_index test xs ≡ Some k → IsFirst test xs k) → (b : Bool) → test x ≡ b → cond b (Some 0) (option_map suc (first_index test xs)) ≡ Some i → IsFirst test (x ∷ xs) i
     by_test rest true t h = here i t h
-    by_test rest false t h = below rest i (first_place test xs) refl h
+    by_test rest false t h = below rest i (first_index test xs) refl h
 
 -- no item that passes stands before it
 pub record IsLeast {A : Type 0} (test : A → Bool) (xs : List A) (j : ℕ) : Type 0 where
   pub place : ℕ
-  pub is : first_place test xs ≡ Some place
+  pub is : first_index test xs ≡ Some place
   pub least : place ≤ j
 
-pub first_place-least : {A : Type 0} (test : A → Bool) (xs : List A) (j : ℕ) (x : A) → slice_get xs j ≡ Some x → test x ≡ true → IsLeast test xs j
-first_place-least test [] j x there passes = cc
-first_place-least {A} test (y ∷ xs) j x there passes = by_test (λ k h. first_place-least test xs k x h passes) (test y) refl j there
+pub first_index-least : {A : Type 0} (test : A → Bool) (xs : List A) (j : ℕ) (x : A) → slice_get xs j ≡ Some x → test x ≡ true → IsLeast test xs j
+first_index-least test [] j x there passes = cc
+first_index-least {A} test (y ∷ xs) j x there passes = by_test (λ k h. first_index-least test xs k x h passes) (test y) refl j there
   where
     none : (j : ℕ) → test y ≡ true → IsLeast test (y ∷ xs) j
     none j t = record { place = 0; is = rw t refl; least = omega arith }
@@ -112,17 +112,17 @@ passes_under q line creates under = rw (creates, under) refl
 
 has_first : (lines : List Line) (x : Listed) → IsItem lines x → HasFirst lines x
 has_first lines x i =
-    let w = first_place-least (makes_under (path_at x)) lines x.0 x.1 i.at (passes_under (path_at x) x.1 i.creates (is_prefix-refl (path_at x))) in
+    let w = first_index-least (makes_under (path_at x)) lines x.0 x.1 i.at (passes_under (path_at x) x.1 i.creates (is_prefix-refl (path_at x))) in
     let first : first_of lines x ≡ w.place = ap (λ (o : Option ℕ). unwrap_or o 0) w.is in
     record { is = w.is ∙ ap (λ (n : ℕ). Some n) (sym first); own = omega (arith, w.least) }
 
 -- what is made first below a path is made no earlier than what is made first at or below a path above it
 first-below : (lines : List Line) (x e : Listed) → IsItem lines x → IsItem lines e → is_prefix (path_at x) (path_at e) ≡ true → first_of lines x ≤ first_of lines e
 first-below lines x e is_x is_e under =
-    let w = first_place-passes (makes_under (path_at e)) lines (first_of lines e) (has_first lines e is_e).is in
+    let w = first_index-passes (makes_under (path_at e)) lines (first_of lines e) (has_first lines e is_e).is in
     let u = and_parts (is_creating w.item) (is_prefix (path_at e) (path_in w.item.path)) w.passes in
     let passes = passes_under (path_at x) w.item u.0 (is_prefix-trans (path_at x) (path_at e) (path_in w.item.path) under u.1) in
-    let v = first_place-least (makes_under (path_at x)) lines (first_of lines e) w.item w.there passes in
+    let v = first_index-least (makes_under (path_at x)) lines (first_of lines e) w.item w.there passes in
     let same : Some v.place ≡ Some (first_of lines x) = sym v.is ∙ (has_first lines x is_x).is in
     let first : v.place ≡ first_of lines x = cc in
     omega (arith, v.least)
@@ -183,8 +183,8 @@ before-beside lines x e is_x is_e beside other l = by_first (cases_lt (first_of 
   where
     at_one : first_of lines e ≡ first_of lines x → length (path_at e) < length (path_at x)
     at_one same =
-        let v = first_place-passes (makes_under (path_at x)) lines (first_of lines x) (has_first lines x is_x).is in
-        let w = first_place-passes (makes_under (path_at e)) lines (first_of lines e) (has_first lines e is_e).is in
+        let v = first_index-passes (makes_under (path_at x)) lines (first_of lines x) (has_first lines x is_x).is in
+        let w = first_index-passes (makes_under (path_at e)) lines (first_of lines e) (has_first lines e is_e).is in
         let one : Some v.item ≡ Some w.item = sym v.there ∙ ap (slice_get lines) (sym same) ∙ w.there in
         let item : w.item ≡ v.item = cc in
         let u = and_parts (is_creating v.item) (is_prefix (path_at x) (path_in v.item.path)) v.passes in
@@ -267,7 +267,7 @@ other_path lines x e distinct is_x old same =
 -- the line that stands first at or below a path lies below it or has that path
 not_first : (lines : List Line) (x e : Listed) → IsItem lines x → IsItem lines e → lies_below (path_at x) (path_at e) ≡ false → path_at e ≢ path_at x → e.0 ≡ first_of lines x → ⊥
 not_first lines x e is_x is_e beside other here =
-    let v = first_place-passes (makes_under (path_at x)) lines (first_of lines x) (has_first lines x is_x).is in
+    let v = first_index-passes (makes_under (path_at x)) lines (first_of lines x) (has_first lines x is_x).is in
     let one : Some v.item ≡ Some e.1 = sym v.there ∙ ap (slice_get lines) (sym here) ∙ is_e.at in
     let item : v.item ≡ e.1 = cc in
     let u = and_parts (is_creating v.item) (is_prefix (path_at x) (path_in v.item.path)) v.passes in
@@ -373,7 +373,7 @@ first_there lines n line s item there = by_place (cases_lt (first_of lines (n, l
   where
     by_place : (first_of lines (n, line) < n) ⊎ (n ≤ first_of lines (n, line)) → (first_of lines (n, line) ≡ n) ⊎ Has (first_of lines (n, line)) s
     by_place (inl l) =
-        let v = first_place-passes (makes_under (path_in line.path)) lines (first_of lines (n, line)) (has_first lines (n, line) item).is in
+        let v = first_index-passes (makes_under (path_in line.path)) lines (first_of lines (n, line)) (has_first lines (n, line) item).is in
         let u = and_parts (is_creating v.item) (is_prefix (path_in line.path) (path_in v.item.path)) v.passes in
         inr (there (first_of lines (n, line)) v.item l v.there u.0)
     by_place (inr l) = let own = (has_first lines (n, line) item).own in inl (omega (arith, l, own))
@@ -415,7 +415,7 @@ pub first_known-own : (lines : List Line) (i : ℕ) (line : Line) (path : Path) 
 first_known-own lines i line path within there is =
     let at : slice_get lines i ≡ Some line = slice_get_read lines (length lines) i line refl within there in
     let passes : makes path line ≡ true = rw is (same_path-refl path) in
-    let w = first_place-least (makes path) lines i line at passes in
+    let w = first_index-least (makes path) lines i line at passes in
     rw w.is refl
 
 -- a line goes to its rank

@@ -1,4 +1,5 @@
--- What lines of each type do in each phase: no other definition looks at the letter of a type (tmpfiles.d(5), "Type").
+-- What lines of each type do in each phase (tmpfiles.d(5), "Type"). No other definition looks at the letter of a
+-- type.
 use Prim.Native.Char.{code}
 use Rattle.std.specs.Prelude.{ℕ, ◌%◌, Bool, true, false, not, ◌&&◌, ◌==◌, List, [], ◌∷◌, ◌++◌, Option, Some, None, option_map, unwrap_or, find, if◌then◌else◌}
 use Rattle.std.specs.Option.{option_map_or}
@@ -31,76 +32,82 @@ use Rattle.pv_table.specs.declared.taking.Taking.TheVariants as taking
 
 -- ---- owners and modes
 
--- the ID that a new object gets, if one is given
+-- The ID of the owner of a new object, if the field gives one.
 abbrev pub id_for_new : Option LineId → Option ℕ
 id_for_new field = option_map (λ owner. owner.id) field
 
--- the ID that an object that is there gets: none where the prefix `:` stands
+-- The ID that an existing object gets. With the prefix `:` it gets none.
 abbrev pub id_to_set : Option LineId → Option ℕ
 id_to_set None = None
 id_to_set (Some owner) = if owner.new_only then None else Some owner.id
 
--- the mode of a new object: where none is given 0755 for a directory and 0644 for any other; the special bits of a
--- masked mode are for a directory alone
+-- The mode of a new object. If none is given, it is 0755 for a directory and 0644 for any other object. A masked mode
+-- (`~`) gives its special bits (07000) only to a directory.
 abbrev pub mode_for_new : Option LineMode → Bool → ℕ
 mode_for_new None directory = if directory then 0o755 else 0o644
 mode_for_new (Some mode) directory = if mode.masked && not directory then mode.value % 512 else mode.value
 
--- a mode is set of no link
+-- A guard that leaves out symbolic links, since they have no mode. If it is for links only, nothing is left.
 abbrev pub without_links : Guard → Option Guard
 without_links Every = Some NoLink
 without_links NoLink = Some NoLink
 without_links (Only kind) = if is_link kind then None else Some (Only kind)
 
--- the mode that an object that is there gets: none where the prefix `:` stands
+-- The operation that sets the mode of an existing object. With the prefix `:` there is none.
 abbrev pub mode_to_set : Option LineMode → Option Guard → List Operation
 mode_to_set (Some mode) (Some guard) = if mode.new_only then [] else Apply guard (Mode mode.value mode.masked) ∷ []
 mode_to_set mode guard = []
 
--- owners and mode are set
+-- The owners are set, and then the mode.
 abbrev pub owners_and_mode : Guard → Line → List Operation
 owners_and_mode guard line =
     Apply guard (Owner (id_to_set line.user) (id_to_set line.group)) ∷ mode_to_set line.mode (without_links guard)
 
 -- ---- arguments
 
--- the bytes of an argument, where it has some
+-- The bytes of an argument. If it has none, they are empty.
 abbrev pub bytes_of : Argument → List ℕ
 bytes_of (argument.FileBytes (Some bytes)) = bytes
 bytes_of (argument.WriteBytes bytes) = bytes
 bytes_of other = []
 
--- a link with the target of an argument
+-- A symbolic link with the target of an argument.
 abbrev pub link_to : Argument → NewKind
 link_to (argument.Target target) = new.Link target
 link_to other = new.Link []
 
--- a device with the numbers of an argument
+-- A device with the numbers of an argument.
 abbrev pub device : Bool → Argument → NewKind
 device block (argument.Device major minor) = new.Device block major minor
 device block other = new.Device block 0 0
 
--- the path of an argument
+-- The path of an argument.
 abbrev pub source_of : Argument → Path
 source_of (argument.Source source) = source
 source_of other = []
 
 -- ---- what is made
 
--- what stands in the way of a new object is replaced with `=`, whatever it is; with `+` what is of another kind, has
--- another target or other numbers, but a directory by a link alone
+-- Which existing objects a new one replaces:
+-- - With `=` it replaces an object of another kind, directories included. With `=` and `+` it also replaces a link
+--   with another target or a device with other numbers.
+-- - With `+` alone, the type L replaces an object of another kind, or a link with another target.
+-- - With `+` alone, the types p, c and b replace an object of another kind, or a device with other numbers. A
+--   directory stays.
+-- - Otherwise, and for `f+` alone, it replaces none.
 abbrev pub renewal : Line → Kind → Option Test
 renewal line kind =
     if line.replace then Some (record { exact = line.plus; spares_directories = false })
     else if line.plus && not (is_file kind) then Some (record { exact = true; spares_directories = not (is_link kind) })
     else None
 
--- f with `+` writes also to a file that is there
+-- `f+` also writes its argument to an existing file.
 abbrev pub contents_to_set : Line → Kind → List Operation
 contents_to_set line kind =
     if line.plus && is_file kind then Apply (Only File) (Write (bytes_of line.argument)) ∷ [] else []
 
--- an object is made
+-- An object is made, with its mode and owners (by default root). If an object of its kind exists and is not replaced,
+-- its content (`f+`), owners and mode are set.
 abbrev pub making : NewKind → Line → Action
 making what line = Create (record {
   new = record {
@@ -113,7 +120,7 @@ making what line = Create (record {
   sets = contents_to_set line (new_kind what) ++ owners_and_mode (Only (new_kind what)) line;
 })
 
--- the object at another path is copied
+-- The object at another path is copied. With `=` it replaces an object of another kind.
 abbrev pub copying : Line → Action
 copying line = Copy (record {
   source = source_of line.argument;
@@ -126,17 +133,19 @@ copying line = Copy (record {
 
 -- ---- what is adjusted
 
--- what is there is adjusted; what is not wanted is left with a message
+-- An existing object is adjusted, and if `deep` everything below it too. An object that is not of the wanted kind is
+-- left with a message.
 abbrev pub adjustment : Bool → Guard → List Operation → Action
 adjustment deep wanted sets = Adjust (record { deep = deep; wanted = wanted; sets = sets })
 
--- bytes are written, or with `+` appended
+-- Bytes are written to an existing file (`w`). With `+` they are appended.
 abbrev pub writing : Line → Action
 writing line =
     adjustment false (Only File)
     (Apply (Only File) (if line.plus then Append (bytes_of line.argument) else Write (bytes_of line.argument)) ∷ [])
 
--- the entries, attributes or letters of an argument are set; entries with `+` are added to those that are there
+-- What an argument sets: ACL entries, extended attributes, or file attribute flags. With `+`, ACL entries are added
+-- to the existing ones.
 abbrev pub set_by : Bool → Argument → List Operation
 set_by plus (argument.Entries line) = Apply NoLink (Entries line (if plus then Add else Replace)) ∷ []
 set_by plus (argument.Attrs attrs) = Apply NoLink (Attrs attrs) ∷ []
@@ -145,8 +154,12 @@ set_by plus other = []
 
 -- ---- the table
 
--- f files, d D v q Q directories, p FIFOs, L links, c b devices, C copies; w written files, e directories that are
--- there, z Z owners and modes, a A ACLs, t T extended attributes, h H letters, the upper case letter with all below
+-- What each type asks for in creating:
+-- - Files (`f`), directories (`d D v q Q`), FIFOs (`p`), symbolic links (`L`), devices (`c b`) and copies (`C`) are
+--   made.
+-- - Files are written (`w`), and existing directories are adjusted (`e`).
+-- - Owners and modes (`z`), ACLs (`a`), extended attributes (`t`) and file attribute flags (`h`) are set. The types
+--   `Z A T H` do the same at and below a path.
 abbrev pub actions : List (ℕ × (Line → Action))
 actions =
     (code "f", λ line. making (new.File (bytes_of line.argument)) line)
@@ -172,13 +185,14 @@ actions =
     ∷ (code "H", λ line. adjustment true Every (set_by line.plus line.argument))
     ∷ []
 
--- what a line asks for; r R x X ask for nothing in the create phase
+-- What a line asks for in creating. Lines of type `r`, `R`, `x` and `X` ask for nothing.
 abbrev pub action_of : Line → Action
 action_of line = option_map_or (λ row. row.1 line) (find (λ row. row.0 == line.letter) actions) Idle
 
 -- ---- what a line is for besides creating
 
--- r takes the object itself, R with all below, D what is below it
+-- What a line removes in removing: `r` the object itself, `R` the object and everything below it, `D` everything
+-- below a directory.
 abbrev pub taking_of : Line → Taking
 taking_of line =
     if line.letter == code "r" then taking.Itself
@@ -186,13 +200,14 @@ taking_of line =
     else if line.letter == code "D" then taking.Contents
     else taking.Nothing
 
--- x spares the object, and all below unless the line has an age; X the object itself
+-- What a line spares from cleaning: `x` the object and everything below it, `X` the object itself. Scopes says what
+-- an `x` line with an age spares.
 abbrev pub sparing_of : Line → Option Sparing
 sparing_of line =
     if line.letter == code "x" then Some sparing.Whole
     else if line.letter == code "X" then Some sparing.Itself
     else None
 
--- whether a line writes bytes: w
+-- Whether a line is of type `w`.
 abbrev pub is_writing : Line → Bool
 is_writing line = line.letter == code "w"

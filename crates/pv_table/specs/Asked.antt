@@ -1,4 +1,5 @@
--- What lines ask of the object at one path (tmpfiles.d(5)); copies, whose objects depend on other paths, are left out.
+-- What lines ask of the object at one path (tmpfiles.d(5)). Lines that copy ask for nothing here, since what they
+-- leave depends on other paths.
 use Rattle.std.specs.Prelude.{Bool, false, not, ◌&&◌, List, [], ◌∷◌, Option, Some, None, if◌then◌else◌}
 use Rattle.std.specs.List.{flat_map}
 use Rattle.pv_walk.specs.declared.operation.Operation.{Operation}
@@ -17,7 +18,8 @@ use Rattle.pv_table.specs.ActionTable.{action_of}
 use Rattle.pv_table.specs.Pointwise.{parent_object_state, adjusts_path}
 use Rattle.pv_table.specs.Reaching.{path_in}
 
--- what comes first at the path itself: the object is made where nothing stands, or in the place of what does not stay
+-- What a line that makes an object does first at its path. The object is made if there is none, or it replaces one
+-- that does not stay.
 abbrev pub first_of : Making → Operation
 first_of making = by making.renew
   where
@@ -25,7 +27,8 @@ first_of making = by making.renew
     by None = Make (object_state_of (new_object making.new 0))
     by (Some test) = Renew test (object_state_of (new_object making.new 0))
 
--- what lies below goes where the object that is put in its place is not a directory, and no directory stays
+-- Whether everything below the path is removed. This is so if the line may replace a directory, and the new object is
+-- not a directory.
 abbrev pub clears_below : Making → Bool
 clears_below making = by making.renew
   where
@@ -33,7 +36,10 @@ clears_below making = by making.renew
     by None = false
     by (Some test) = not test.spares_directories && not (is_directory (new_kind making.new.what))
 
--- what a making asks of each path: at its own, above it, and below it
+-- What a line that makes an object asks of a path:
+-- - At its own path, the object is made, and then what the line sets.
+-- - Above its path, a directory is made if there is none.
+-- - Below its path, the object is removed if `clears_below` says so.
 abbrev pub made_at : Making → Path → Path → List Operation
 made_at making path q =
     if same_path path q then first_of making ∷ making.sets
@@ -41,7 +47,7 @@ made_at making path q =
     else if is_prefix path q && clears_below making then Erase ∷ []
     else []
 
--- what a line asks of the object at a path
+-- What a line asks of the object at a path.
 abbrev pub operations : Line → Path → List Operation
 operations line q = by (action_of line)
   where
@@ -51,6 +57,7 @@ operations line q = by (action_of line)
     by (Adjust adjustment) = if adjusts_path line adjustment q then adjustment.sets else []
     by Idle = []
 
--- what lines ask of it, one after the other, each operation in its parts
+-- What several lines ask of the object at a path, one after the other. Operations that take more than one step are
+-- split into their parts.
 abbrev pub operations_of : List Line → Path → List Operation
 operations_of lines q = flat_map (λ line. parts (operations line q)) lines

@@ -1,5 +1,5 @@
--- Which paths a line names, which it reaches, and which it may change (tmpfiles.d(5)).
-use Rattle.std.specs.Prelude.{Bool, true, false, ◌&&◌, ◌||◌, ◌==◌, length, take, [], Option, Some, None, is_some, if◌then◌else◌}
+-- Which paths a line names, reaches, and governs (tmpfiles.d(5)).
+use Rattle.std.specs.Prelude.{Bool, true, false, ◌&&◌, ◌||◌, length, take, [], is_some}
 use Rattle.std.specs.List.{list_any, range_with_len}
 use Rattle.std.specs.Option.{option_map_or}
 use Rattle.pv_glob.specs.Matching.{some_matches}
@@ -17,26 +17,27 @@ use Rattle.pv_table.specs.ActionTable.{action_of, sparing_of, taking_of}
 
 -- ---- names
 
--- the path of a line that names one path
+-- The path of a line that has one path and not a pattern.
 abbrev pub path_in : LinePath → Path
 path_in (Literal path) = path
 path_in (Glob pattern) = []
 
--- a line names a path: its own, or one that its pattern matches
+-- Whether a path is the line's own, or its pattern matches it.
 abbrev pub names_in : LinePath → Path → Bool
 names_in (Literal path) q = same_path path q
 names_in (Glob pattern) q = some_matches pattern q
 
+-- Whether a line names a path.
 abbrev pub names : Line → Path → Bool
 names line q = names_in line.path q
 
--- a line names what a path lies below
+-- Whether a line names some directory above a path.
 abbrev pub names_above : Line → Path → Bool
 names_above line q = list_any (λ k. names line (take k q)) (range_with_len 0 (length q))
 
 -- ---- reach
 
--- whether a line is of a type that makes the object at its path: such a line has a path, any other a pattern
+-- Whether a line makes or copies an object. Such a line has a path, and every other line has a pattern.
 abbrev pub is_creating : Line → Bool
 is_creating line = by line.path
   where
@@ -44,7 +45,8 @@ is_creating line = by line.path
     by (Literal path) = true
     by (Glob pattern) = false
 
--- whether what is done at a path reaches all below it: a replaced object goes with all below
+-- Whether what a line does at a path reaches everything below it: it may replace the object, copies, or adjusts
+-- everything below too.
 abbrev pub is_deep : Action → Bool
 is_deep (Create making) = is_some making.renew
 is_deep (Copy copying) = true
@@ -61,16 +63,20 @@ abbrev pub spares_below : Sparing → Bool
 spares_below sparing.Whole = true
 spares_below sparing.Itself = false
 
--- whether a line reaches what lies below the paths that it names
+-- Whether a line reaches everything below the paths that it names. It does if one of these holds:
+-- - It may replace an object, copies, or adjusts everything below (see `is_deep`).
+-- - It removes (`R`, `D`) or spares (`x`) everything below.
+-- - It has an age, or the modifier `$`.
 abbrev pub reaches_below : Line → Bool
 reaches_below line =
     is_deep (action_of line) || takes_below (taking_of line) || option_map_or spares_below (sparing_of line) false
     || is_some line.age || line.purge
 
--- a line reaches a path
+-- Whether a line reaches a path: it names the path, or reaches everything below a path that it names above it.
 abbrev pub reaches : Line → Path → Bool
 reaches line q = names line q || (reaches_below line && names_above line q)
 
--- a line may change a path: it reaches it, or makes it as a parent
+-- Whether a line governs a path, which means that it may change it. It reaches the path, or the path is at or above
+-- the object that it makes or copies.
 abbrev pub governs : Line → Path → Bool
 governs line q = reaches line q || (is_creating line && is_prefix q (path_in line.path))

@@ -1,6 +1,6 @@
--- Which lines share a path, and why carrying out lines twice may leave something else than carrying them out once
--- (this project's own).
-use Rattle.std.specs.Prelude.{◌≡◌, ◌≢◌, ◌⊎◌, ℕ, ◌<◌, Bool, true, false, ◌||◌, ◌==◌, List, [], Option, Some, None, is_some, slice_get}
+-- Which lines share a path, and which lines have a hazard (this project's own). Carrying out lines with a hazard
+-- twice may leave another tree than carrying them out once.
+use Rattle.std.specs.Prelude.{◌≡◌, ◌≢◌, ◌⊎◌, ℕ, ◌<◌, Bool, true, false, ◌||◌, List, [], Option, Some, None, is_some, slice_get}
 use Rattle.std.specs.List.{list_any}
 use Rattle.pv_walk.specs.declared.operation.Operation.{Operation}
 use Rattle.pv_walk.specs.Reasons.{is_adjusting, is_append, gives_base}
@@ -20,15 +20,16 @@ use Rattle.pv_table.specs.Turns.{copied}
 
 -- ---- lines that share a path
 
--- the line at a place of a list
+-- The line at an index of a list.
 abbrev pub IsAt : List Line → ℕ → Line → Type 0
 IsAt lines i line = slice_get lines i ≡ Some line
 
--- both lines reach a path
+-- Both lines reach a path.
 abbrev pub BothReach : Line → Line → Path → Type 0
 BothReach a b q = (reaches a q ≡ true) × (reaches b q ≡ true)
 
--- two lines, the first before the second, share some path that can stand in a tree
+-- Two lines, the first one at the lower index, both reach some path that a tree can have. The tree at hand need not
+-- have it.
 pub record Overlap (lines : List Line) (i j : ℕ) : Type 0 where
   pub first : Line
   pub second : Line
@@ -41,22 +42,22 @@ pub record Overlap (lines : List Line) (i j : ℕ) : Type 0 where
 
 -- ---- what a line does
 
--- what a line sets of an object that is there
+-- What a line sets of an existing object.
 abbrev pub sets_of : Action → List Operation
 sets_of (Create making) = making.sets
 sets_of (Copy copying) = copying.sets
 sets_of (Adjust adjustment) = adjustment.sets
 sets_of Idle = []
 
--- whether a line appends bytes
+-- Whether a line appends bytes.
 abbrev pub appends : Line → Bool
 appends line = list_any (is_adjusting is_append) (sets_of (action_of line))
 
--- whether a line sets base entries of an ACL
+-- Whether a line sets base entries of an access ACL: those of the owner, the owning group or all others.
 abbrev pub sets_base : Line → Bool
 sets_base line = list_any (is_adjusting gives_base) (sets_of (action_of line))
 
--- whether a line has a masked mode, be it of use to its type or not
+-- Whether a line has a masked mode (`~`), even if its type does not use the mode.
 abbrev pub has_masked_mode : Line → Bool
 has_masked_mode line = by line.mode
   where
@@ -64,19 +65,26 @@ has_masked_mode line = by line.mode
     by None = false
     by (Some mode) = mode.masked
 
--- whether a line takes away what it names: r or R
+-- Whether a line removes the paths that it names (`r`, `R`).
 abbrev pub takes_named : Taking → Bool
 takes_named taking.Itself = true
 takes_named taking.Whole = true
 takes_named other = false
 
--- whether a line may change what is read from a path that it governs
+-- Whether a line may change what exists at a path or the bytes there: it makes, copies, writes bytes, removes what it
+-- names, or has an age.
 abbrev pub changes_content : Line → Bool
 changes_content line = is_creating line || is_writing line || takes_named (taking_of line) || is_some line.age
 
--- ---- reasons
+-- ---- hazards
 
--- the line at a place has a hazard; a path in which it lies is one that can stand in a tree
+-- The line at an index has a hazard. Each path q is one that a tree can have.
+-- - append: The line appends bytes.
+-- - source: The line governs a path q at or below the source of a line that copies. Both may be the same line.
+-- - below: The line makes an object below the path of a line that copies.
+-- - input: The line may change the content of a path q that it governs, and q is an input path.
+-- - mask: The line and an earlier one reach a path q. One of the two has a masked mode, and the other sets base
+--   entries of an ACL.
 pub data HasReason (lines : List Line) (i : ℕ) : Reason → Type 0 where
   append : (line : Line) → IsAt lines i line → appends line ≡ true → HasReason lines i reason.Append
   source : (line other : Line) (j : ℕ) (path q : Path) → IsAt lines i line → IsAt lines j other
@@ -90,6 +98,6 @@ pub data HasReason (lines : List Line) (i : ℕ) : Reason → Type 0 where
       → ((has_masked_mode other ≡ true) × (sets_base line ≡ true)) ⊎ ((sets_base other ≡ true) × (has_masked_mode line ≡ true))
       → HasReason lines i reason.Mask
 
--- no line has a hazard
+-- No line has a hazard.
 abbrev pub IsRepeatable : List Line → Type 0
 IsRepeatable lines = (i : ℕ) (r : Reason) → HasReason lines i r → ⊥

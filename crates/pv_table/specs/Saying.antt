@@ -1,4 +1,4 @@
--- What a run says of its lines; the texts are this project's own.
+-- The messages of a run about its lines. The texts are this project's own.
 use Rattle.std.specs.Prelude.{ℕ, List, [], ◌∷◌, ◌++◌, codes, map, take, Option, Some, None}
 use Rattle.pv_path.specs.Paths.{Path}
 use Rattle.pv_path.specs.Printing.{printed_path}
@@ -15,7 +15,7 @@ use Rattle.pv_table.specs.ActionTable.{action_of}
 use Rattle.pv_table.specs.Effects.{prepare}
 use Rattle.pv_table.specs.Turns.{Refused, Turn, view_of, decide, refused_at}
 
--- the words for a kind
+-- The words for a kind.
 abbrev pub kind_text : Kind → List ℕ
 kind_text Directory = codes "directory"
 kind_text File = codes "file"
@@ -24,36 +24,37 @@ kind_text Fifo = codes "fifo"
 kind_text CharDevice = codes "character device"
 kind_text BlockDevice = codes "block device"
 
--- the words for the reason of a refusal
+-- The words for the reason of a refusal.
 abbrev pub why_text : Why → List ℕ
 why_text why.Link = codes "link"
 why_text why.NotDirectory = codes "not a directory"
 why_text why.UnsafeOwner = codes "unsafe owner"
 
--- an object of another kind is left
+-- The message that an object of another kind is left.
 abbrev pub left_text : Path → Kind → List ℕ
 left_text path kind = printed_path path ++ codes " is a " ++ kind_text kind ++ codes ", left"
 
--- a path is refused at the place of its first k names
+-- The message that a path is refused at its first k components.
 abbrev pub place_text : Path → ℕ → Why → List ℕ
 place_text path k reason = printed_path path ++ codes " refused at " ++ printed_path (take k path) ++ codes ": " ++ why_text reason
 
+-- The message about a refusal, of a source or of the path itself.
 abbrev pub refused_text : Refused → List ℕ
 refused_text (Refused.source path k reason) = codes "source " ++ place_text path k reason
 refused_text (Refused.named path k reason) = place_text path k reason
 
--- what is said of what is done at a path
+-- The messages about what is done at a path.
 abbrev pub turn_texts : Path → Turn → List (List ℕ)
 turn_texts path (Turn.Left kind) = left_text path kind ∷ []
 turn_texts path turn = []
 
--- the tree that a line finds at its turn: one that makes something has prepared its path
+-- The tree in which a line decides what it does at a path. A line that makes or copies has prepared the path before.
 abbrev pub found : ℕ → Action → Path → Files → Files
 found now (Create making) path t = prepare now path t
 found now (Copy copying) path t = prepare now path t
 found now action path t = t
 
--- what is said of a line at a path that it names
+-- The messages of a line about a path that it names: that it is refused, or otherwise about what is done there.
 abbrev pub texts : ℕ → Line → Path → Files → List (List ℕ)
 texts now line path t = by (refused_at line path (places t))
   where
@@ -61,5 +62,6 @@ texts now line path t = by (refused_at line path (places t))
     by (Some place) = refused_text place ∷ []
     by None = turn_texts path (decide (action_of line) (view_of (found now (action_of line) path t)) path)
 
+-- The same messages, with the location of the line.
 abbrev pub turn_messages : ℕ → Line → Path → Files → List (List ℕ)
 turn_messages now line path t = map (message_text_at line.place) (texts now line path t)

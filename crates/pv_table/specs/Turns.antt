@@ -1,6 +1,6 @@
--- A line at its turn: whether it is refused, and what is done at a path that it names, by the object there without its
--- timestamps (tmpfiles.d(5)).
-use Rattle.std.specs.Prelude.{ℕ, Bool, true, false, not, ◌&&◌, List, ◌∷◌, length, take, Option, Some, None, is_some, option_map, unwrap_or, if◌then◌else◌}
+-- What a line does at a path that it names: whether it is refused there, and otherwise what it does, by the object
+-- there without its timestamps (tmpfiles.d(5)).
+use Rattle.std.specs.Prelude.{ℕ, Bool, true, false, not, ◌&&◌, List, length, take, Option, Some, None, is_some, option_map, unwrap_or, if◌then◌else◌}
 use Rattle.std.specs.List.{list_all, range_with_len}
 use Rattle.std.specs.Option.{option_map_or, option_or, option_and_then}
 use Rattle.std.specs.FinMap as fin
@@ -28,37 +28,41 @@ use Rattle.pv_table.specs.ActionTable.{action_of, id_for_new, mode_for_new}
 
 -- ---- refusals
 
--- a place is refused: of the path that a line copies, or of the path at which it is carried out
+-- A refusal: the first k components of a path are refused for a reason. The path is the one that the line copies, or
+-- the one at which it is carried out.
 pub data Refused : Type 0 where
   source : (path : Path) → ℕ → Why → Refused
   named : (path : Path) → ℕ → Why → Refused
 
--- the first place above a copied path that cannot be passed; owners do not count
+-- The refusal of a path that is copied: the first directory above it that is a symbolic link or not a directory.
+-- Owners do not count.
 abbrev pub source_refusal : Places → Path → Option (ℕ × Why)
 source_refusal t path = first_refused (λ k. why_unsafe (kind_of (t (take k path)))) (range_with_len 0 (length path))
 
--- what a line copies
+-- The path that a line copies, if it copies.
 abbrev pub copied : Action → Option Path
 copied (Copy copying) = Some copying.source
 copied action = None
 
--- the owner of what a line copies
+-- The owner of the object that a line copies.
 abbrev pub source_owner : Places → Action → Option ℕ
 source_owner t action = option_map (λ o. o.node.uid) (option_and_then t (copied action))
 
--- the owner that an absent last place counts as: the line's user, otherwise that of what it copies, otherwise root
+-- The user that an absent last component of a path counts as owned by: the user of the line, otherwise the owner of
+-- what it copies, otherwise root.
 abbrev pub owner_made : Line → Places → ℕ
 owner_made line t = unwrap_or (option_or (id_for_new line.user) (source_owner t (action_of line))) 0
 
--- whether there is something to do: a copy of what is absent does nothing at all
+-- Whether there is something to do. A copy of what does not exist does nothing.
 abbrev pub has_something : Places → Action → Bool
 has_something t action = option_map_or (λ path. is_some (t path)) (copied action) true
 
--- the refused place of the path itself
+-- The refusal of the path at which a line is carried out.
 abbrev pub named_refusal : Line → Path → Places → Option Refused
 named_refusal line path t = option_map (λ place. Refused.named path place.0 place.1) (refusal t path (owner_made line t))
 
--- the refused place of a line at a path that it names: that of what it copies is looked for before all else
+-- The refusal of a line at a path that it names. The refusal of the source of a copy comes first. If there is nothing
+-- to do, there is no other.
 abbrev pub refused_at : Line → Path → Places → Option Refused
 refused_at line path t =
     option_or
@@ -67,23 +71,24 @@ refused_at line path t =
 
 -- ---- what is done
 
--- objects without timestamps: the paths at which they stand, and the object at each
+-- Objects without timestamps: the paths that have an object, and the object at each path.
 pub record View : Type 0 where
   pub paths : List Path
   pub at : Path → Option ObjectState
 
+-- The objects of a tree, without timestamps.
 abbrev pub view_of : Files → View
 view_of t = record { paths = fin.keys t; at = object_states_of (places t) }
 
--- what is done at a path: nothing; an object of this kind is left with a message; the object there, with all below,
--- gives way to a subtree; or it is adjusted by operations
+-- What is done at a path. Nothing is done. Or an object of another kind is left, with a message. Or a subtree
+-- replaces the object there and everything below. Or operations change the object.
 pub data Turn : Type 0 where
   Nothing : Turn
   Left : Kind → Turn
   Put : Subtree → Turn
   Become : List Operation → Turn
 
--- what the top of a copy gets, by whether it is a directory
+-- The mode and the owners that the top of a copy gets.
 abbrev pub top_of : Copying → Bool → TopNode
 top_of copying directory = record {
   mode = option_map (λ mode. mode_for_new (Some mode) directory) copying.mode;
@@ -91,23 +96,26 @@ top_of copying directory = record {
   gid = copying.gid;
 }
 
--- a copied object with the mode and the owners of a line; a link takes owners alone
+-- A copied object with the mode and the owners of a line. A symbolic link gets only the owners.
 abbrev pub topped_by : Copying → ObjectState → ObjectState
 topped_by copying b = topped (top_of copying (is_directory b.body.kind)) b
 
--- the copy of what is at and below a path, staging names left out
+-- The copy of what is at and below a path, without what has a staging name.
 abbrev pub copy_of : Copying → View → Subtree
 copy_of copying view = copy_from (topped_by copying) copying.source view.at
 
--- whether a path is that of an object directly below another, staging names aside
+-- Whether a path is directly below another, and its last component is not a staging name.
 abbrev pub is_visible_child : Path → Path → Bool
 is_visible_child path q = option_map_or (λ name. not (is_staging name)) (child_name path q) false
 
--- whether a directory holds nothing, staging names aside
+-- Whether there is nothing in a directory, staging names aside.
 abbrev pub is_childless : View → Path → Bool
 is_childless view path = list_all (λ q. not (is_visible_child path q)) view.paths
 
--- an object stays where its kind, or else the renewal, lets it
+-- What a line does at its path that makes an object:
+-- - If there is none, the new one is put there.
+-- - If there is one that is to be replaced (see `renewal`), the new one is put in its place.
+-- - If there is one of the same kind, it is adjusted. An object of another kind is left with a message.
 abbrev pub making_turn : Making → Option ObjectState → Turn
 making_turn making None = Put (single (object_state_of (new_object making.new 0)))
 making_turn making (Some b) =
@@ -116,7 +124,11 @@ making_turn making (Some b) =
     else if same_kind new.body.kind b.body.kind then Become making.sets
     else Left b.body.kind
 
--- a directory is copied over a childless one anew; over another object of its kind nothing is copied
+-- What a line does at its path that copies an object of this kind:
+-- - If there is no object, the copy is put there.
+-- - If there is an object of the same kind, it is adjusted. But an empty directory is replaced by the copy of a
+--   directory.
+-- - If there is an object of another kind, the copy replaces it with `=`. Otherwise it is left with a message.
 abbrev pub copying_turn : Copying → View → Path → Kind → Option ObjectState → Turn
 copying_turn copying view path kind None = Put (copy_of copying view)
 copying_turn copying view path kind (Some b) =
@@ -125,12 +137,13 @@ copying_turn copying view path kind (Some b) =
     else if copying.renews then Put (copy_of copying view)
     else Left b.body.kind
 
--- what is not wanted is left
+-- What a line does that adjusts. If there is no object, it does nothing. An object of the wanted kind is adjusted,
+-- and any other is left with a message.
 abbrev pub adjustment_turn : Adjustment → Option ObjectState → Turn
 adjustment_turn adjustment None = Nothing
 adjustment_turn adjustment (Some b) = if admits adjustment.wanted b.body.kind then Become adjustment.sets else Left b.body.kind
 
--- what a line that is not refused does at a path that it names
+-- What a line that is not refused does at a path that it names. A copy of what does not exist does nothing.
 abbrev pub decide : Action → View → Path → Turn
 decide (Create making) view path = making_turn making (view.at path)
 decide (Copy copying) view path = by (view.at copying.source)

@@ -1,4 +1,4 @@
-//! What a line asks for in the create phase, whatever its letter.
+//! What a line asks for in the create phase, whatever its type letter is.
 ghost use Rattle.std.specs.Prelude.{◌≡◌};
 ghost use Rattle.pv_table.specs.Repeatable.{sets_of};
 ghost use Rattle.pv_table.specs.Turns.{top_of};
@@ -8,24 +8,24 @@ use pv_lines::LineMode;
 use pv_path::{Sequence, TreePath};
 use pv_walk::{Guard, NewFile, Operation, Test, TopNode};
 
-/// Operations in their order.
+/// A list of operations, in the order in which they are done.
 pub type OperationList = Sequence<Operation>;
 
-/// What a line asks for in the create phase (tmpfiles.d(5), "Type").
+/// What a line asks for in the create phase, whatever its type letter is (tmpfiles.d(5), "Type").
 #[derive(Drop)]
 pub enum Action {
-    /// An object is made at the line's path, or the object there is adjusted.
+    /// An object is made at the path of the line, or the object there is adjusted.
     Create(Making),
-    /// The object at another path is copied to the line's path, or the object there is adjusted.
+    /// The object at another path is copied to the path of the line, or the object there is adjusted.
     Copy(Copying),
     /// The objects at the paths that the line names are adjusted.
     Adjust(Adjustment),
-    /// Nothing.
+    /// The line does nothing in the create phase.
     Idle,
 }
 
 impl Action {
-    /// What is set of an object that is there and stays.
+    /// Returns what the line sets on an object that it does not replace. The call does not allocate.
     pub fn sets(&self) -> &[Operation]
         ensures { result.now ≡ sets_of self.now }
     {
@@ -38,38 +38,45 @@ impl Action {
     }
 }
 
-/// An object that is to stand at a path.
+/// What a line asks for if it makes an object at its path.
 #[derive(Drop)]
 pub struct Making {
-    /// The object, where it is new.
+    /// The object that is made if there is none, or if the one at the path is replaced.
     pub new: NewFile,
-    /// Which objects stay where one of another kind, or with other substance, is replaced; none is where this is
-    /// omitted.
+    /// The test that an object at the path must pass to be kept: one that fails it is replaced. With `None` no object
+    /// is replaced.
     pub renew: Option<Test>,
-    /// What is set of an object that stays and is of the kind.
+    /// What is set on an object at the path that is kept, if it has the kind of `new`. If it has another kind, it is
+    /// left as it is, with a message.
     pub sets: OperationList,
 }
 
-/// A copy that is to stand at a path.
+/// What a line asks for if it copies an object to its path.
+///
+/// If nothing is at the path, a copy of the source with everything below it is put there. The same happens if a
+/// directory is copied and an empty directory is at the path.
 #[derive(Drop)]
 pub struct Copying {
-    /// The path that is copied.
+    /// The path of the source. If it is absent, the line does nothing.
     pub source: TreePath,
-    /// The mode of the copied object itself, if it is given.
+    /// The mode of the top of the copy, if the line gives one.
     pub mode: Option<LineMode>,
-    /// The owner of the copied object itself, if it is given.
+    /// The UID of the top of the copy, if the line gives an owner.
     pub uid: Option<u32>,
-    /// The owning group of the copied object itself, if it is given.
+    /// The GID of the top of the copy, if the line gives an owning group.
     pub gid: Option<u32>,
-    /// Whether an object of another kind is replaced.
+    /// Whether an object at the path that is not of the kind of the source is replaced.
     pub renews: bool,
-    /// What is set of an object that stays and is of the kind.
+    /// What is set on an object at the path that is kept, if it has the kind of the source. If it has another kind, it
+    /// is left as it is, with a message.
     pub sets: OperationList,
 }
 
 impl Copying {
-    /// What the top of the copy gets, by whether it is a directory: the special bits of a masked mode are for a directory
-    /// alone.
+    /// Returns the mode and the owners that the top of the copy gets.
+    ///
+    /// `directory` says whether it is a directory. The three special bits (07000) of a masked mode are for
+    /// directories alone. The call does not allocate.
     pub fn top(&self, directory: bool) -> TopNode
         ensures { result ≡ top_of self.now directory }
     {
@@ -81,13 +88,13 @@ impl Copying {
     }
 }
 
-/// What is to be set of objects that are there.
+/// What a line asks for if it adjusts present objects.
 #[derive(Drop)]
 pub struct Adjustment {
-    /// Whether all that stands below is meant as well.
+    /// Whether everything below the named paths is adjusted too.
     pub deep: bool,
-    /// Which objects are not left with a message.
+    /// Which objects at the named paths are adjusted. Any other is left as it is, with a message.
     pub wanted: Guard,
-    /// What is set.
+    /// What is set on them.
     pub sets: OperationList,
 }

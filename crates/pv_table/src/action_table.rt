@@ -1,9 +1,8 @@
-//! What lines of each type do: nothing else looks at the letter of a type.
+//! What lines of each type do. No other file looks at the letter of a type.
 ghost use Rattle.std.specs.Prelude.{◌≡◌, ◌++◌, [], ◌∷◌, IfOk, OnOk};
 ghost use Rattle.std.specs.Option.{option_map_or};
 ghost use Rattle.pv_walk.specs.declared.operation.Guard.TheVariants.{Every, NoLink, Only};
 ghost use Rattle.pv_walk.specs.declared.operation.Operation.TheVariants.{Apply};
-ghost use Rattle.pv_walk.specs.Staging.{new_kind};
 ghost use Rattle.pv_table.specs.Active.{is_adjusting_line};
 ghost use Rattle.pv_table.specs.ActionTable.{action_of, bytes_of, contents_to_set, copying, device, id_for_new, id_to_set, is_writing, link_to, making, mode_for_new, mode_to_set, owners_and_mode, renewal, set_by, source_of, sparing_of, taking_of, adjustment, without_links, writing};
 
@@ -16,8 +15,14 @@ use pv_steps::Kind;
 use pv_walk::{Change, Guard, NewFile, NewKind, Operation, Test};
 use std::alloc::{AllocError, Global};
 
-/// What a line asks for in the create phase (tmpfiles.d(5), "Type"). Types that neither make nor set anything there ask
-/// for nothing.
+/// Returns what a line asks for in the create phase, by its type (tmpfiles.d(5), "Type").
+///
+/// - `f`, `F`, `d`, `D`, `v`, `q`, `Q`, `p`, `L`, `c` and `b` give `Create`.
+/// - `C` gives `Copy`.
+/// - `w`, `e`, `z`, `Z`, `a`, `A`, `t`, `T`, `h` and `H` give `Adjust`.
+/// - `r`, `R`, `x` and `X` give `Idle`.
+///
+/// The only error is `AllocError`.
 pub fn action_of(alloc: Global, line: &Line) -> Result<Action, AllocError>
     ensures { IfOk result (λ action. action ≡ action_of line.now) }
 {
@@ -39,7 +44,7 @@ pub fn action_of(alloc: Global, line: &Line) -> Result<Action, AllocError>
     }
 }
 
-/// Whether a line adjusts what is there (tmpfiles.d(5), w, e, z, a, t and h).
+/// Returns whether a line adjusts present objects (tmpfiles.d(5), `w`, `e`, `z`, `Z`, `a`, `A`, `t`, `T`, `h`, `H`).
 pub(crate) fn is_adjusting_line(line: &Line) -> bool
     ensures { result ≡ is_adjusting_line line.now }
 {
@@ -49,7 +54,9 @@ pub(crate) fn is_adjusting_line(line: &Line) -> bool
     )
 }
 
-/// What a line takes away in the remove phase at a path that it names (tmpfiles.d(5), r, R and D).
+/// Returns what a line removes in the remove phase at a path that it names (tmpfiles.d(5), `r`, `R` and `D`).
+///
+/// The call does not allocate. What a purge removes by the modifier `$` is not part of the answer.
 pub fn taking_of(line: &Line) -> Taking
     ensures { result ≡ taking_of line.now }
 {
@@ -61,7 +68,9 @@ pub fn taking_of(line: &Line) -> Taking
     }
 }
 
-/// What a line spares in the clean phase at a path that it names (tmpfiles.d(5), x and X).
+/// Returns what a line protects in the clean phase at a path that it names (tmpfiles.d(5), `x` and `X`).
+///
+/// The answer is `None` for all other types. The call does not allocate.
 pub fn sparing_of(line: &Line) -> Option<Sparing>
     ensures { result ≡ sparing_of line.now }
 {
@@ -72,14 +81,14 @@ pub fn sparing_of(line: &Line) -> Option<Sparing>
     }
 }
 
-/// Whether a line writes to what is there (tmpfiles.d(5), w).
+/// Returns whether a line writes to present files: its type is `w` (tmpfiles.d(5)). The call does not allocate.
 pub fn is_writing(line: &Line) -> bool
     ensures { result ≡ is_writing line.now }
 {
     line.letter == b'w'
 }
 
-/// The ID that a new object gets, if one is given.
+/// Returns the ID that a new object gets, if the line gives one.
 pub(crate) fn id_for_new(field: Option<LineId>) -> Option<u32>
     ensures { result ≡ id_for_new field }
 {
@@ -89,7 +98,7 @@ pub(crate) fn id_for_new(field: Option<LineId>) -> Option<u32>
     }
 }
 
-/// The ID that an object that is there gets.
+/// Returns the ID that a present object gets, if any.
 fn id_to_set(field: Option<LineId>) -> Option<u32>
     ensures { result ≡ id_to_set field }
 {
@@ -99,7 +108,7 @@ fn id_to_set(field: Option<LineId>) -> Option<u32>
     }
 }
 
-/// The mode of a new object.
+/// Returns the mode of a new object.
 pub(crate) fn mode_for_new(field: Option<LineMode>, directory: bool) -> u16
     ensures { result ≡ mode_for_new field directory }
 {
@@ -115,7 +124,7 @@ pub(crate) fn mode_for_new(field: Option<LineMode>, directory: bool) -> u16
     }
 }
 
-/// A guard that a mode may stand behind, if any.
+/// Returns the guard with which a mode is set, if a mode can be set at all: links have none.
 fn without_links(guard: Guard) -> Option<Guard>
     ensures { result ≡ without_links guard }
 {
@@ -127,7 +136,7 @@ fn without_links(guard: Guard) -> Option<Guard>
     }
 }
 
-/// Adds the mode that an object that is there gets.
+/// Adds the operation that sets the mode of a present object, if there is one.
 fn add_mode(
     operations: &mut OperationList,
     field: Option<LineMode>,
@@ -147,7 +156,7 @@ fn add_mode(
     Ok(())
 }
 
-/// Adds what sets owners and mode.
+/// Adds the operations that set owners and mode.
 fn add_owners_and_mode(
     operations: &mut OperationList,
     guard: Guard,
@@ -163,7 +172,7 @@ fn add_owners_and_mode(
     add_mode(operations, line.mode, without_links(guard))
 }
 
-/// The bytes of an argument, where it has some.
+/// Returns the bytes of an argument, or none if it has none.
 fn bytes_of(alloc: Global, argument: &Argument) -> Result<Bytes, AllocError>
     ensures { IfOk result (λ bytes. bytes ≡ bytes_of argument.now) }
 {
@@ -174,7 +183,7 @@ fn bytes_of(alloc: Global, argument: &Argument) -> Result<Bytes, AllocError>
     }
 }
 
-/// A link with the target of an argument.
+/// Returns a link with the target of an argument.
 fn link_to(alloc: Global, argument: &Argument) -> Result<NewKind, AllocError>
     ensures { IfOk result (λ what. what ≡ link_to argument.now) }
 {
@@ -184,7 +193,7 @@ fn link_to(alloc: Global, argument: &Argument) -> Result<NewKind, AllocError>
     }
 }
 
-/// A device with the numbers of an argument.
+/// Returns a device with the numbers of an argument.
 fn device(block: bool, argument: &Argument) -> NewKind
     ensures { result ≡ device block argument.now }
 {
@@ -202,7 +211,7 @@ fn device(block: bool, argument: &Argument) -> NewKind
     }
 }
 
-/// The path of an argument.
+/// Returns the path of an argument.
 fn source_of(alloc: Global, argument: &Argument) -> Result<TreePath, AllocError>
     ensures { IfOk result (λ path. path ≡ source_of argument.now) }
 {
@@ -212,21 +221,7 @@ fn source_of(alloc: Global, argument: &Argument) -> Result<TreePath, AllocError>
     }
 }
 
-/// The kind of a new object.
-pub(crate) fn kind_of(what: &NewKind) -> Kind
-    ensures { result ≡ new_kind what.now }
-{
-    match what {
-        NewKind::Directory => Kind::Directory,
-        NewKind::File(_) => Kind::File,
-        NewKind::Link(_) => Kind::Link,
-        NewKind::Fifo => Kind::Fifo,
-        NewKind::Device { block: true, .. } => Kind::BlockDevice,
-        NewKind::Device { block: false, .. } => Kind::CharDevice,
-    }
-}
-
-/// What of another kind, or with other substance, is replaced.
+/// Returns the test that a present object must pass to be kept, or nothing if no object is replaced.
 fn renewal(line: &Line, kind: Kind) -> Option<Test>
     ensures { result ≡ renewal line.now kind }
 {
@@ -245,7 +240,7 @@ fn renewal(line: &Line, kind: Kind) -> Option<Test>
     }
 }
 
-/// What is set of a present object of a kind, where a line of that kind makes one.
+/// Returns what is set on a present object, by a line that makes objects of this kind.
 fn sets_of(alloc: Global, kind: Kind, line: &Line) -> Result<OperationList, AllocError>
     ensures { IfOk result (λ sets. sets ≡ contents_to_set line.now kind ++ owners_and_mode (Only kind) line.now) }
 {
@@ -261,11 +256,11 @@ fn sets_of(alloc: Global, kind: Kind, line: &Line) -> Result<OperationList, Allo
     Ok(sets)
 }
 
-/// An object is made.
+/// Returns the action of a line that makes an object.
 fn making(alloc: Global, what: NewKind, line: &Line) -> Result<Action, AllocError>
     ensures { IfOk result (λ action. action ≡ making what line.now) }
 {
-    let kind = kind_of(&what);
+    let kind = what.kind();
     Ok(Action::Create(Making {
         new: NewFile {
             what,
@@ -278,7 +273,7 @@ fn making(alloc: Global, what: NewKind, line: &Line) -> Result<Action, AllocErro
     }))
 }
 
-/// The object at another path is copied.
+/// Returns the action of a line that copies an object.
 fn copying(alloc: Global, line: &Line) -> Result<Action, AllocError>
     ensures { IfOk result (λ action. action ≡ copying line.now) }
 {
@@ -294,7 +289,7 @@ fn copying(alloc: Global, line: &Line) -> Result<Action, AllocError>
     }))
 }
 
-/// Owners and mode of what is there are set.
+/// Returns the action of a line that sets owners and mode of present objects.
 fn adjusting(alloc: Global, deep: bool, guard: Guard, line: &Line) -> Result<Action, AllocError>
     ensures { IfOk result (λ action. action ≡ adjustment deep guard (owners_and_mode guard line.now)) }
 {
@@ -307,7 +302,7 @@ fn adjusting(alloc: Global, deep: bool, guard: Guard, line: &Line) -> Result<Act
     }))
 }
 
-/// Bytes are written or appended.
+/// Returns the action of a line that writes or appends bytes.
 fn writing(alloc: Global, line: &Line) -> Result<Action, AllocError>
     ensures { IfOk result (λ action. action ≡ writing line.now) }
 {
@@ -327,7 +322,7 @@ fn writing(alloc: Global, line: &Line) -> Result<Action, AllocError>
     }))
 }
 
-/// The change that an argument asks for, if any.
+/// Returns the change that an argument asks for, if it asks for one.
 fn change_by(plus: bool, argument: &Argument) -> Result<Option<Change>, AllocError>
     ensures { IfOk result (λ change. option_map_or (λ c. Apply NoLink c ∷ []) change [] ≡ set_by plus argument.now) }
 {
@@ -345,7 +340,7 @@ fn change_by(plus: bool, argument: &Argument) -> Result<Option<Change>, AllocErr
     }
 }
 
-/// Entries, attributes or letters are set.
+/// Returns the action of a line that sets ACL entries, extended attributes or file attribute flags.
 fn setting(alloc: Global, deep: bool, line: &Line) -> Result<Action, AllocError>
     ensures { IfOk result (λ action. action ≡ adjustment deep Every (set_by line.now.plus line.now.argument)) }
 {

@@ -14,15 +14,24 @@ use pv_age::Age;
 use pv_lines::Line;
 use pv_path::TreePath;
 
-/// The age for what stands in a directory, by the lines of a table in their listing order (tmpfiles.d(5), "Age", x and X).
-/// It takes no memory.
+/// Returns the age by which the contents of a directory are cleaned, if they are cleaned at all (tmpfiles.d(5),
+/// "Age", `x` and `X`).
+///
+/// `path` is the path of the directory. These rules are tried in order:
+/// 1. If a line `x` without an age names the directory, there is no age.
+/// 2. If lines with an age name the directory, its age is that of the first of these lines.
+/// 3. If no line names the directory, or only lines `X` do, its age is that for the directory above. Above the root
+///    there is none.
+/// 4. Otherwise there is no age.
+///
+/// The call does not allocate.
 pub fn scope_of(table: &Table, path: &TreePath) -> Option<Scope>
     ensures { result ≡ scope table.now path.now }
 {
     scope_by(table.lines(), path)
 }
 
-/// The age for what stands in a directory, by these lines.
+/// Returns the age for a directory, by these lines.
 fn scope_by(lines: &[Line], path: &TreePath) -> Option<Scope>
     ensures { result ≡ scope lines.now path.now }
 {
@@ -33,7 +42,7 @@ fn scope_by(lines: &[Line], path: &TreePath) -> Option<Scope>
     scope
 }
 
-/// The age for the directory of the first names of a path, where its parent has the one above.
+/// Returns the age for the directory of the first names of a path. `above` is the age for its parent.
 fn scope_at(above: Option<Scope>, lines: &[Line], path: &TreePath, count: usize) -> Option<Scope>
     requires { count ≤ length path.now }
     ensures { result ≡ scope_at above lines.now (take count path.now) }
@@ -53,7 +62,7 @@ fn scope_at(above: Option<Scope>, lines: &[Line], path: &TreePath, count: usize)
     }
 }
 
-/// An age as it holds for what lies deeper.
+/// Returns an age as it holds for deeper directories.
 fn inherited(scope: Option<Scope>) -> Option<Scope>
     ensures { result ≡ inherited scope }
 {
@@ -66,21 +75,21 @@ fn inherited(scope: Option<Scope>) -> Option<Scope>
     }
 }
 
-/// Whether a line spares all below what it names.
+/// Returns whether a line protects everything below what it names: `x` without an age.
 fn is_exempting(line: &Line) -> bool
     ensures { result ≡ is_exempting line.now }
 {
     line.age.is_none() && matches!(sparing_of(line), Some(Sparing::Whole))
 }
 
-/// Whether a line spares what it names alone.
+/// Returns whether a line protects only what it names itself: `X`.
 fn is_sparing_itself(line: &Line) -> bool
     ensures { result ≡ is_sparing_itself line.now }
 {
     matches!(sparing_of(line), Some(Sparing::Itself))
 }
 
-/// Whether a line that names the directory of the first names spares all below it.
+/// Returns whether a line that names the directory of the first names of a path protects everything below it.
 fn exempts(lines: &[Line], path: &TreePath, count: usize) -> bool
     requires { count ≤ length path.now }
     ensures { result ≡ list_any (λ line. names line (take count path.now) && is_exempting line) lines.now }
@@ -88,7 +97,7 @@ fn exempts(lines: &[Line], path: &TreePath, count: usize) -> bool
     lines.iter().any(|line| names_first(line, path, count) && is_exempting(line))
 }
 
-/// The age of the first line that names the directory of the first names and has one.
+/// Returns the age of the first line that names the directory of the first names of a path and has an age.
 fn first_age(lines: &[Line], path: &TreePath, count: usize) -> Option<Age>
     requires { count ≤ length path.now }
     ensures { result ≡ first_age lines.now (take count path.now) }
@@ -99,7 +108,7 @@ fn first_age(lines: &[Line], path: &TreePath, count: usize) -> Option<Age>
     }
 }
 
-/// The first line that names the directory of the first names and has an age.
+/// Returns the first line that names the directory of the first names of a path and has an age.
 fn with_age<'a>(lines: &'a [Line], path: &TreePath, count: usize) -> Option<&'a Line>
     requires { count ≤ length path.now }
     ensures { option_copied result ≡ find (gives_age (take count path.now)) lines.now }
@@ -107,7 +116,7 @@ fn with_age<'a>(lines: &'a [Line], path: &TreePath, count: usize) -> Option<&'a 
     lines.iter().find(|line| names_first(line, path, count) && line.age.is_some())
 }
 
-/// Whether all lines that name the directory of the first names spare it alone.
+/// Returns whether all lines that name the directory of the first names of a path protect only itself.
 fn spares_itself(lines: &[Line], path: &TreePath, count: usize) -> bool
     requires { count ≤ length path.now }
     ensures { result ≡ list_all (λ line. not (names line (take count path.now)) || is_sparing_itself line) lines.now }

@@ -1,4 +1,4 @@
-//! From the lines of a configuration to the active ones.
+//! Builds the table of active lines from the lines of a configuration.
 ghost use Rattle.std.specs.Prelude.{◌≡◌, [], ◌∷◌, ◌++◌, IfOk, OnOk, OnErr};
 ghost use Rattle.std.specs.Option.{option_copied};
 ghost use Rattle.pv_lines.specs.Lines.{IsLine};
@@ -14,9 +14,20 @@ use pv_path::{TreePath, print_path};
 use pv_text::Messages;
 use std::alloc::{AllocError, Global};
 
-/// Builds the table of the active lines of a configuration, in their listing order (tmpfiles.d(5)). These are the lines
-/// that pass the filters (systemd-tmpfiles(8), --boot, --prefix and --exclude-prefix), and of several that make the
-/// object at one path the first. Each other of these is said to be a duplicate, unless it asks for the same.
+/// Builds the table of the active lines (tmpfiles.d(5), systemd-tmpfiles(8)). They are in the order in which they were
+/// read, which is called the listing order.
+///
+/// - `lines` are the lines that were read.
+/// - `boot` says whether the run has `--boot`. Without it, lines with the modifier `!` are left out.
+/// - `prefix` is the path of `--prefix`. Only lines whose path or pattern begins with its components stay. `None`
+///   does not filter.
+/// - `exclude` is the path of `--exclude-prefix`. Lines whose path or pattern begins with its components are left
+///   out. `None` does not filter.
+///
+/// Of several remaining lines that make or copy an object at one path, the first stays. Each other one is left out
+/// with the message `FILE:N: duplicate line for PATH`. There is no message if it asks for the same as the first.
+///
+/// The only error is `AllocError`, and then only some of these messages, a prefix of their list, were added.
 pub fn build(
     alloc: Global,
     lines: LineList,
@@ -38,7 +49,7 @@ pub fn build(
     Ok(table)
 }
 
-/// Keeps a line that was read, unless a line that makes what it makes is kept already.
+/// Keeps a line, unless a line that makes or copies an object at the same path is kept already.
 fn keep(
     alloc: Global,
     table: Table,
@@ -59,7 +70,7 @@ fn keep(
     }
 }
 
-/// Says that a line is a duplicate of the first, unless it asks for the same.
+/// Adds the message that a line is a duplicate of the first, unless it asks for the same.
 fn say_dropped(
     alloc: Global,
     first: &Line,
@@ -76,7 +87,7 @@ fn say_dropped(
     }
 }
 
-/// Says that a line is a duplicate.
+/// Adds the message that a line is a duplicate.
 fn say_duplicate(alloc: Global, line: &Line, messages: &mut Messages) -> Result<(), AllocError>
     ensures new_messages { OnOk result (messages.new ≡ messages.old ++ duplicate_message line.now ∷ []) }
     ensures messages_kept { OnErr result (messages.new ≡ messages.old) }

@@ -1,5 +1,7 @@
-//! The table of what lines ask for (tmpfiles.d(5)): which lines are active, in which order they are carried out, and what
-//! a run of them leaves.
+//! The table of the active lines, and what each line asks for (tmpfiles.d(5)).
+//!
+//! The crate says which lines are active, and in which order they are carried out. Its definitions say what each
+//! phase of a run leaves.
 #![tactic(auto)]
 
 mod action;
@@ -25,7 +27,7 @@ pub use age_scope::scope_of;
 pub use building::build;
 pub use laws::{
     a_line_asks_nothing_elsewhere, active_lines_make_different_paths,
-    quiet_does_not_depend_on_the_moment, what_lies_above_comes_first,
+    refusing_no_line_does_not_depend_on_the_moment, what_lies_above_comes_first,
 };
 pub use message::{left_text, place_text, say_left, say_refused, say_source_refused};
 pub use named::{named_paths, standing_at};
@@ -37,5 +39,5 @@ pub use scope::Scope;
 pub use table::Table;
 pub use taking::{Sparing, Taking};
 
-/// Places of lines in some order.
+/// A list of indices of lines in a table, counted from 0.
 pub type IndexList = pv_path::Sequence<usize>;

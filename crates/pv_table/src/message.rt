@@ -1,4 +1,4 @@
-//! What is said of lines in the create phase.
+//! Messages about lines: an object is left, or a path is refused.
 ghost use Rattle.std.specs.Prelude.{◌≡◌, ◌++◌, ◌∷◌, [], codes, take, IfOk, OnOk, OnErr};
 ghost use Rattle.pv_path.specs.Printing.{printed_path};
 ghost use Rattle.pv_text.specs.GivenMessages.{message_text_at};
@@ -10,8 +10,12 @@ use pv_steps::{Kind, Why};
 use pv_text::{Messages, Place};
 use std::alloc::{AllocError, Global};
 
-/// Says of a line that an object of another kind stands at a path and is left. After running out of memory the messages are as
-/// before.
+/// Adds the message that an object of another kind is left: `FILE:N: PATH is a KIND, left`.
+///
+/// - `place` is the location of the line.
+/// - `path` is the path of the object, and `kind` is its kind, such as `directory` or `character device`.
+///
+/// The only error is `AllocError`, and then the messages are as before.
 pub fn say_left(
     alloc: Global,
     place: &Place,
@@ -26,8 +30,15 @@ pub fn say_left(
     messages.push_at(place, &left_text(alloc, path, kind)?)
 }
 
-/// Says of a line that it is refused at a place of a path that it names, counted by the names that lead to it. After
-/// running out of memory the messages are as before.
+/// Adds the message that a path is refused: `FILE:N: PATH refused at PREFIX: WHY`.
+///
+/// - `place` is the location of the line.
+/// - `path` is a path that the line names.
+/// - `count` says at which component it is refused: PREFIX has the first `count` names of the path, and is the root
+///   if it is 0.
+/// - `why` is printed as `link`, `not a directory` or `unsafe owner`.
+///
+/// The only error is `AllocError`, and then the messages are as before.
 pub fn say_refused(
     alloc: Global,
     place: &Place,
@@ -43,7 +54,15 @@ pub fn say_refused(
     messages.push_at(place, &place_text(alloc, path, count, why)?)
 }
 
-/// Says of a line that its source is refused at a place. After running out of memory the messages are as before.
+/// Adds the message that a copy source is refused: `FILE:N: source PATH refused at PREFIX: WHY`.
+///
+/// - `place` is the location of the line.
+/// - `path` is the path of the source.
+/// - `count` says at which component it is refused: PREFIX has the first `count` names of the path, and is the root
+///   if it is 0.
+/// - `why` is printed as `link`, `not a directory` or `unsafe owner`.
+///
+/// The only error is `AllocError`, and then the messages are as before.
 pub fn say_source_refused(
     alloc: Global,
     place: &Place,
@@ -59,6 +78,7 @@ pub fn say_source_refused(
     messages.push_at(place, &source_text(alloc, path, count, why)?)
 }
 
+/// Returns the words for a kind of object.
 fn kind_text(kind: Kind) -> &'static [u8]
     ensures { result.now ≡ kind_text kind }
 {
@@ -72,6 +92,7 @@ fn kind_text(kind: Kind) -> &'static [u8]
     }
 }
 
+/// Returns the words for the reason of a refusal.
 fn why_text(why: Why) -> &'static [u8]
     ensures { result.now ≡ why_text why }
 {
@@ -82,7 +103,9 @@ fn why_text(why: Why) -> &'static [u8]
     }
 }
 
-/// `PATH is a KIND, left`.
+/// Returns the text `PATH is a KIND, left`, for a path and the kind of the object at it.
+///
+/// The only error is `AllocError`.
 pub fn left_text(alloc: Global, path: &TreePath, kind: Kind) -> Result<Vec<u8>, AllocError>
     ensures { IfOk result (λ text. text.items ≡ left_text path.now kind) }
 {
@@ -93,7 +116,7 @@ pub fn left_text(alloc: Global, path: &TreePath, kind: Kind) -> Result<Vec<u8>, 
     Ok(text)
 }
 
-/// The path of the first names of a path.
+/// Returns the path of the first `count` names of a path.
 fn first_names(alloc: Global, path: &TreePath, count: u32) -> Result<TreePath, AllocError>
     ensures { IfOk result (λ p. p ≡ take count path.now) }
 {
@@ -101,7 +124,7 @@ fn first_names(alloc: Global, path: &TreePath, count: u32) -> Result<TreePath, A
     TreePath::of(alloc, &names[..names.len().min(count as usize)])
 }
 
-/// The printed path of the first names of a path.
+/// Returns the printed path of the first `count` names of a path.
 fn first_text(alloc: Global, path: &TreePath, count: u32) -> Result<Vec<u8>, AllocError>
     ensures { IfOk result (λ text. text.items ≡ printed_path (take count path.now)) }
 {
@@ -109,7 +132,10 @@ fn first_text(alloc: Global, path: &TreePath, count: u32) -> Result<Vec<u8>, All
     print_path(alloc, &place)
 }
 
-/// `PATH refused at PLACE: WHY`, the place counted by the names that lead to it.
+/// Returns the text `PATH refused at PREFIX: WHY`.
+///
+/// `count` says at which component the path is refused: PREFIX has the first `count` names of the path, and is the root
+/// if it is 0. The only error is `AllocError`. For example, `/a/b/c refused at /a/b: link` has the count 2.
 pub fn place_text(
     alloc: Global,
     path: &TreePath,
@@ -127,7 +153,7 @@ pub fn place_text(
     Ok(text)
 }
 
-/// `source PATH refused at PLACE: WHY`.
+/// Returns the text `source PATH refused at PREFIX: WHY`.
 fn source_text(alloc: Global, path: &TreePath, count: u32, why: Why) -> Result<Vec<u8>, AllocError>
     ensures { IfOk result (λ text. text.items ≡ codes "source " ++ place_text path.now count why) }
 {

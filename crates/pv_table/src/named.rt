@@ -1,4 +1,4 @@
-//! The paths that a line names.
+//! The present paths that a line names.
 ghost use Rattle.std.specs.Prelude.{◌≡◌, filter, IfOk};
 ghost use Rattle.std.specs.FinMap as fin;
 ghost use Rattle.pv_path.specs.Paths.{same_path};
@@ -10,8 +10,10 @@ use pv_steps::Tree;
 use pv_walk::{add_standing, in_order, matching_paths};
 use std::alloc::{AllocError, Global};
 
-/// The paths at which something stands and that a line names, in byte order: its own, or those that its pattern matches
-/// (tmpfiles.d(5), "Path").
+/// Lists the present paths that a line names, in byte order, each once (tmpfiles.d(5), "Path"; glob(7)).
+///
+/// A line names its own path, or the paths that its pattern matches. Symbolic links are not followed. Byte order
+/// compares paths name by name. The only error is `AllocError`.
 pub fn named_paths<T: Tree>(
     alloc: Global,
     tree: &T,
@@ -25,7 +27,9 @@ pub fn named_paths<T: Tree>(
     }
 }
 
-/// A path alone where something stands there, otherwise none.
+/// Lists this path alone if an object is at it, otherwise no path.
+///
+/// The only error is `AllocError`.
 pub fn standing_at<T: Tree>(
     alloc: Global,
     tree: &T,

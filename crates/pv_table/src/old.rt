@@ -1,4 +1,4 @@
-//! Whether an object is old for an age at a moment.
+//! Whether an object is old by an age.
 ghost use Rattle.std.specs.Prelude.{◌≡◌, ◌||◌, not, nat_lt};
 ghost use Rattle.std.specs.List.{list_all};
 ghost use Rattle.pv_age.specs.Stamps.{has};
@@ -8,9 +8,14 @@ use bitflags::Flags;
 use pv_age::{Age, StampSet};
 use pv_steps::{Kind, Node};
 
-/// Whether an object is old by an age, at a moment in microseconds since 1970 (tmpfiles.d(5), "Age"). By the age 0 each
-/// object is old. Otherwise the age must not be above the moment. Every timestamp that it looks at for this kind of
-/// object must then lie before the moment minus the age. An age that looks at no timestamp of this kind finds it old.
+/// Returns whether an object is old by an age (tmpfiles.d(5), "Age").
+///
+/// `now` is the time of the run in microseconds since 1970-01-01 UTC. By the age 0 every object is old. By any other
+/// age an object is old if both hold:
+/// - The age is at most `now`.
+/// - Each timestamp that the age looks at for this kind of object is before `now` minus the age.
+///
+/// If the age looks at no timestamp for this kind of object, the second condition holds. The call does not allocate.
 pub fn is_old(node: &Node, age: &Age, now: u64) -> bool
     ensures { result ≡ is_old node.now age.now now }
 {
@@ -23,7 +28,7 @@ pub fn is_old(node: &Node, age: &Age, now: u64) -> bool
     }
 }
 
-/// Whether every timestamp that is looked at for the kind of an object lies before a moment.
+/// Returns whether each timestamp that counts for the kind of an object is before a time.
 fn is_before(node: &Node, by: StampSet, limit: u64) -> bool
     ensures { result ≡ list_all (is_before by limit) (stamps_of_kind node.now.kind node.now.stamps) }
 {
@@ -44,7 +49,7 @@ fn is_before(node: &Node, by: StampSet, limit: u64) -> bool
     }
 }
 
-/// Whether a timestamp is not looked at, or lies before a moment.
+/// Returns whether a timestamp does not count, or is before a time.
 fn is_stamp_before(by: StampSet, letter: StampSet, stamp: u64, limit: u64) -> bool
     ensures { result ≡ (not (has by letter.0) || nat_lt stamp limit) }
 {

@@ -1,12 +1,12 @@
-//! In which order lines are carried out.
-ghost use Rattle.std.specs.Prelude.{◌≡◌, ◌&&◌, ◌++◌, [], map, filter, fold, cond, Some, None, is_some, is_none, unwrap_or, IfOk, OnOk};
+//! The order in which lines are carried out.
+ghost use Rattle.std.specs.Prelude.{◌≡◌, ◌&&◌, ◌++◌, [], map, filter, fold, not, cond, Some, None, is_some, unwrap_or, IfOk, OnOk};
 ghost use Rattle.std.specs.List.{enumerate_from};
 ghost use Rattle.std.specs.Option.{option_or};
 ghost use Rattle.indexmap.specs.IndexMap.{get};
 ghost use Rattle.pv_path.specs.Paths.{Path, is_prefix, same_path};
 ghost use Rattle.pv_table.specs.Active.{create_order, is_adjusting_line, placed, remove_order};
-ghost use Rattle.pv_table.specs.Building.{first_place, makes};
-ghost use Rattle.pv_table.specs.Ranking.{first_known, with_rank};
+ghost use Rattle.pv_table.specs.Building.{first_index, makes};
+ghost use Rattle.pv_table.specs.Ranking.{first_known, HasPrefixes, with_rank};
 ghost use Rattle.pv_table.specs.Reaching.{is_creating};
 
 use crate::IndexList;
@@ -19,8 +19,11 @@ use pv_path::TreePath;
 use std::alloc::{AllocError, Global};
 use std::collections::BTreeMap;
 
-/// The indexes of the lines of the create phase, in its order (tmpfiles.d(5)). Lines that make an object come first,
-/// parents before children. Then come those that adjust what is there.
+/// Returns the indices of the lines that do something in the create phase, in its order (tmpfiles.d(5)).
+///
+/// Lines that make or copy an object come first. Of these, a line comes before the others whose paths are below its
+/// own. Then come the lines that adjust, in their listing order (the order in which they were read). The indices are
+/// counted from 0. The only error is `AllocError`.
 pub fn create_order(alloc: Global, table: &Table) -> Result<IndexList, AllocError>
     ensures { IfOk result (λ order. order ≡ create_order table.now) }
 {
@@ -29,7 +32,7 @@ pub fn create_order(alloc: Global, table: &Table) -> Result<IndexList, AllocErro
     Ok(order)
 }
 
-/// The places of the lines that make something, what lies above before what lies below.
+/// Returns the indices of the lines that make or copy an object, what is above before what is below.
 fn making_order(alloc: Global, table: &Table) -> Result<IndexList, AllocError>
     ensures { IfOk result (λ order. order ≡ map (λ line. line.0) (fold placed [] (filter (λ line. is_creating line.1) (enumerate_from 0 table.now)))) }
 {
@@ -38,7 +41,10 @@ fn making_order(alloc: Global, table: &Table) -> Result<IndexList, AllocError>
     places_of(alloc, &ranks)
 }
 
-/// The places of the lines that take something away in the remove phase, as they are listed (tmpfiles.d(5), r, R and D).
+/// Returns the indices of the lines that remove something in the remove phase, in the order in which they were read
+/// (tmpfiles.d(5), `r`, `R` and `D`).
+///
+/// The indices are counted from 0. The only error is `AllocError`.
 pub fn remove_order(alloc: Global, table: &Table) -> Result<IndexList, AllocError>
     ensures { IfOk result (λ order. order ≡ remove_order table.now) }
 {
@@ -52,7 +58,7 @@ pub fn remove_order(alloc: Global, table: &Table) -> Result<IndexList, AllocErro
     Ok(order)
 }
 
-/// Adds the places of the lines that adjust what is there, as they are listed.
+/// Adds the indices of the lines that adjust, in listing order.
 fn add_adjustment(order: &mut IndexList, lines: &[Line]) -> Result<(), AllocError>
     ensures { OnOk result (order.new ≡ order.old ++ map (λ line. line.0) (filter (λ line. is_adjusting_line line.1) (enumerate_from 0 lines.now))) }
 {
@@ -64,7 +70,7 @@ fn add_adjustment(order: &mut IndexList, lines: &[Line]) -> Result<(), AllocErro
     Ok(())
 }
 
-/// For each path of a line that makes something, the place of the first line that makes something at or below it.
+/// Returns, for each path of a line that makes or copies, the index of the first such line at or below it.
 fn firsts_under(alloc: Global, table: &Table) -> Result<IndexMap<TreePath, usize>, AllocError>
     ensures { IfOk result (λ firsts. (q : Path) → get same_path firsts q ≡ first_known table.now table.now q) }
 {
@@ -78,7 +84,8 @@ fn firsts_under(alloc: Global, table: &Table) -> Result<IndexMap<TreePath, usize
     Ok(firsts)
 }
 
-/// Notes a place for each prefix of a path, the path included, that is the path of a line and has no place yet.
+/// Records an index for each prefix of a path, the path included, that is the path of a line and has no index yet. It
+/// begins with the path, and stops at the first prefix that has an index: the prefixes of that have one already.
 fn note_prefixes(
     alloc: Global,
     table: &Table,
@@ -86,41 +93,42 @@ fn note_prefixes(
     path: &TreePath,
     place: usize,
 ) -> Result<(), AllocError>
-    ensures { OnOk result ((q : Path) → get same_path firsts.new q ≡ option_or (get same_path firsts.old q) (cond (is_some (first_place (makes q) table.now) && is_prefix q path.now) (Some place) None)) }
+    requires { HasPrefixes table.now (get same_path firsts.old) }
+    ensures { OnOk result ((q : Path) → get same_path firsts.new q ≡ option_or (get same_path firsts.old q) (cond (is_some (first_index (makes q) table.now) && is_prefix q path.now) (Some place) None)) }
 {
-    let mut prefix = TreePath::root(alloc);
-    note(table, firsts, &prefix, place)?;
-    for name in path.names() {
-        prefix.push(name.copy()?)?;
-        note(table, firsts, &prefix, place)?;
+    for above in 0..path.len() {
+        let prefix = TreePath::of(alloc, &path.names()[..path.len() - above])?;
+        if !note(table, firsts, prefix, place)? {
+            return Ok(());
+        }
     }
+    note(table, firsts, TreePath::root(alloc), place)?;
     Ok(())
 }
 
-/// Notes a place for a path that is the path of a line and has no place yet.
+/// Records an index for a path that is the path of a line and has no index yet. The answer is false if it has one
+/// already.
 fn note(
     table: &Table,
     firsts: &mut IndexMap<TreePath, usize>,
-    path: &TreePath,
+    path: TreePath,
     place: usize,
-) -> Result<(), AllocError>
-    ensures { OnOk result ((q : Path) → get same_path firsts.new q ≡ option_or (get same_path firsts.old q) (cond (is_some (first_place (makes q) table.now) && same_path q path.now) (Some place) None)) }
+) -> Result<bool, AllocError>
+    ensures noted { OnOk result ((q : Path) → get same_path firsts.new q ≡ option_or (get same_path firsts.old q) (cond (is_some (first_index (makes q) table.now) && same_path q path) (Some place) None)) }
+    ensures had_none { IfOk result (λ had_none. had_none ≡ not (is_some (first_index (makes path) table.now) && is_some (get same_path firsts.old path))) }
 {
-    if is_wanting(table, firsts, path) {
-        firsts.insert(path.copy()?, place)?;
+    if table.index_of(&path).is_none() {
+        return Ok(true);
     }
-    Ok(())
+    if firsts.get(&path).is_some() {
+        return Ok(false);
+    }
+    firsts.insert(path, place)?;
+    Ok(true)
 }
 
-/// Whether a path is the path of a line and has no place yet.
-fn is_wanting(table: &Table, firsts: &IndexMap<TreePath, usize>, path: &TreePath) -> bool
-    ensures { result ≡ (is_some (first_place (makes path.now) table.now) && is_none (get same_path firsts.now path.now)) }
-{
-    table.place_of(path).is_some() && firsts.get(path).is_none()
-}
-
-/// The places of the lines that make something, by the place of the first line at or below their path, and then by how
-/// many names that has.
+/// Returns the indices of the lines that make or copy, by their ranks. A rank is the index of the first such line at or
+/// below the path, and then the number of names of the path.
 fn ranks_of(
     alloc: Global,
     lines: &[Line],
@@ -138,14 +146,14 @@ fn ranks_of(
     Ok(ranks)
 }
 
-/// The place noted for a path, or 0.
+/// Returns the index that is recorded for a path, or 0.
 fn first_of(firsts: &IndexMap<TreePath, usize>, path: &TreePath) -> usize
     ensures { result ≡ unwrap_or (get same_path firsts.now path.now) 0 }
 {
     firsts.get(path).copied().unwrap_or(0)
 }
 
-/// The places in the order of their ranks.
+/// Returns the indices in the order of their ranks.
 fn places_of(
     alloc: Global,
     ranks: &BTreeMap<(usize, usize), usize>,

@@ -10,22 +10,25 @@ use pv_lines::{Line, LinePath};
 use pv_path::TreePath;
 use std::alloc::{AllocError, Global};
 
-/// Whether a line takes something away in the remove phase.
+/// Returns whether a line removes something in the remove phase.
 pub(crate) fn is_taking(line: &Line) -> bool
     ensures { result ≡ is_taking line.now }
 {
     !matches!(taking_of(line), Taking::Nothing)
 }
 
-/// Whether a line is of a type that makes the object at its path (tmpfiles.d(5), "Type"). Such a line has a path, any
-/// other a pattern.
+/// Returns whether a line is of a type that makes or copies an object at its path (tmpfiles.d(5), "Type").
+///
+/// Such a line has a path, and any other has a pattern. The call does not allocate.
 pub fn is_creating(line: &Line) -> bool
     ensures { result ≡ is_creating line.now }
 {
     matches!(&line.path, LinePath::Literal(_))
 }
 
-/// The path of a line that names one path; the root for a pattern.
+/// Returns a copy of the path of a line. For a line with a pattern it gives the root.
+///
+/// The only error is `AllocError`.
 pub fn path_of(alloc: Global, line: &Line) -> Result<TreePath, AllocError>
     ensures { IfOk result (λ path. path ≡ path_in line.now.path) }
 {
@@ -35,7 +38,8 @@ pub fn path_of(alloc: Global, line: &Line) -> Result<TreePath, AllocError>
     }
 }
 
-/// Whether a line names a path: its own, or one that its pattern matches. It takes no memory.
+/// Returns whether a line names a path: it is its own path, or its pattern matches it (glob(7)). The call does not
+/// allocate.
 pub fn names(line: &Line, path: &TreePath) -> bool
     ensures { result ≡ names line.now path.now }
 {
@@ -45,7 +49,9 @@ pub fn names(line: &Line, path: &TreePath) -> bool
     }
 }
 
-/// Whether a line names the path of the first names of a path.
+/// Returns whether a line names the path that consists of the first `count` names of a path.
+///
+/// `count` must be at most the number of names of the path. The call does not allocate.
 pub fn names_first(line: &Line, path: &TreePath, count: usize) -> bool
     requires { count ≤ length path.now }
     ensures { result ≡ names line.now (take count path.now) }

@@ -4,49 +4,49 @@ ghost use Rattle.pv_table.specs.Active.{ask_same, same_argument, same_owners, sa
 
 use pv_lines::{Argument, Line};
 
-/// Whether two lines that make the object at one path ask for the same. It takes no memory.
+/// Returns whether two lines that make or copy an object at one path ask for the same. The call does not allocate.
 pub(crate) fn ask_same(a: &Line, b: &Line) -> bool
     ensures { result ≡ ask_same a.now b.now }
 {
     same_type(a, b) && same_settings(a, b) && same_argument(&a.argument, &b.argument)
 }
 
-/// Whether two lines have the same type and modifiers.
+/// Returns whether two lines have the same type and modifiers.
 fn same_type(a: &Line, b: &Line) -> bool
     ensures { result ≡ same_type a.now b.now }
 {
     a.letter == b.letter && same_times(a, b) && same_ways(a, b)
 }
 
-/// Whether two lines have the same modifiers that say when they hold: `!`, `-` and `$`.
+/// Returns whether two lines have the same modifiers that say when they hold: `!`, `-` and `$`.
 fn same_times(a: &Line, b: &Line) -> bool
     ensures { result ≡ same_times a.now b.now }
 {
     a.boot == b.boot && a.minus == b.minus && a.purge == b.purge
 }
 
-/// Whether two lines have the same modifiers that say what they do: `+`, `=` and `~`.
+/// Returns whether two lines have the same modifiers that say what they do: `+`, `=` and `~`.
 fn same_ways(a: &Line, b: &Line) -> bool
     ensures { result ≡ same_ways a.now b.now }
 {
     a.plus == b.plus && a.replace == b.replace && a.encoded == b.encoded
 }
 
-/// Whether two lines have the same mode, owners and age.
+/// Returns whether two lines have the same mode, owners and age.
 fn same_settings(a: &Line, b: &Line) -> bool
     ensures { result ≡ same_settings a.now b.now }
 {
     a.mode == b.mode && same_owners(a, b) && a.age == b.age
 }
 
-/// Whether two lines have the same owners.
+/// Returns whether two lines have the same owners.
 fn same_owners(a: &Line, b: &Line) -> bool
     ensures { result ≡ same_owners a.now b.now }
 {
     a.user == b.user && a.group == b.group
 }
 
-/// Whether the arguments of two lines that make something are the same.
+/// Returns whether the arguments of two lines that make or copy an object are the same.
 fn same_argument(a: &Argument, b: &Argument) -> bool
     ensures { result ≡ same_argument a.now b.now }
 {

@@ -8,8 +8,10 @@ use pv_lines::Line;
 use pv_path::{TreePath, pieces_of};
 use std::alloc::{AllocError, Global};
 
-/// Whether a line passes the filters (systemd-tmpfiles(8), --boot, --prefix and --exclude-prefix). Lines for the boot
-/// pass at boot alone. A line's path has to begin with the components of one path and not with those of another.
+/// Returns whether a line passes the filters (systemd-tmpfiles(8), --boot, --prefix and --exclude-prefix).
+///
+/// Lines with `!` pass only with --boot. The path of a line must begin with the components of the one path, and must
+/// not begin with those of the other.
 pub(crate) fn stays(
     alloc: Global,
     line: &Line,
@@ -33,7 +35,7 @@ pub(crate) fn stays(
     }
 }
 
-/// Whether a line's path begins with the components of a path.
+/// Returns whether the path of a line begins with the components of a path.
 fn is_within(alloc: Global, path: &TreePath, line: &Line) -> Result<bool, AllocError>
     ensures { IfOk result (λ answer. answer ≡ is_within path.now line.now) }
 {
@@ -41,7 +43,7 @@ fn is_within(alloc: Global, path: &TreePath, line: &Line) -> Result<bool, AllocE
     Ok(begins(path, &pieces))
 }
 
-/// Whether pieces begin with the names of a path; empty ones do not count.
+/// Returns whether pieces begin with the names of a path. Empty pieces do not count.
 fn begins(path: &TreePath, pieces: &[&[u8]]) -> bool
     ensures { result ≡ is_prefix path.now (filter (λ name. not (length name == 0)) (map (λ s. s.now) pieces.now)) }
 {

@@ -6,7 +6,7 @@ ghost use Rattle.indexmap.specs.IndexMap.{get};
 ghost use Rattle.pv_lines.specs.Lines.{IsLine};
 ghost use Rattle.pv_path.specs.Paths.{Path, same_path};
 ghost use Rattle.pv_table.specs.Active.{are_distinct, make_same};
-ghost use Rattle.pv_table.specs.Building.{first_place, makes};
+ghost use Rattle.pv_table.specs.Building.{first_index, makes};
 
 use indexmap::IndexMap;
 use pv_lines::{Line, LinePath};
@@ -14,12 +14,14 @@ use pv_path::TreePath;
 use std::alloc::{AllocError, Global};
 use std::marker::Model;
 
-/// The active lines of a configuration, as they are listed, each as one that was read (tmpfiles.d(5)). No two lines
-/// make the object at one path. Clauses see the list.
+/// The active lines of a configuration, in the order in which they were read: the listing order (tmpfiles.d(5)).
+///
+/// Each is a line as it was read, and no two of them make or copy an object at one path. In contracts, a value is the
+/// list of its lines.
 #[derive(Drop)]
 pub struct Table {
     lines: Vec<Line>,
-    places: IndexMap<TreePath, usize>,
+    indices: IndexMap<TreePath, usize>,
 }
 
 impl Model for Table {
@@ -36,22 +38,23 @@ impl Model for Table {
 
     ghost view = { λ t. t.lines.items };
 
-    ghost invariant = { λ t. (are_distinct t.lines.items ≡ true) × IsIndexOf t.lines.items (get same_path t.places)
+    ghost invariant = { λ t. (are_distinct t.lines.items ≡ true) × IsIndexOf t.lines.items (get same_path t.indices)
         × AllByRecursion IsLine t.lines.items };
 }
 
 impl Table {
-    /// The table without lines. It takes no memory.
+    /// Makes a table without lines. The call does not allocate.
     pub(crate) fn new(alloc: Global) -> Table
         ensures { result ≡ [] }
     {
         Table {
             lines: Vec::new(alloc),
-            places: IndexMap::new(alloc),
+            indices: IndexMap::new(alloc),
         }
     }
 
-    /// The table with a line more that was read, which makes what no earlier line makes.
+    /// Returns the table with a line added at the end. No line of the table may make or copy an object at the path of
+    /// the new one.
     pub(crate) fn with(self, line: Line) -> Result<Table, AllocError>
         requires line { IsLine line }
         requires first { find (λ first. make_same first line) self ≡ None }
@@ -59,39 +62,40 @@ impl Table {
     {
         let Table {
             mut lines,
-            mut places,
+            mut indices,
         } = self;
-        note_place(&mut places, &line, lines.len())?;
+        note_index(&mut indices, &line, lines.len())?;
         lines.push(line)?;
-        Ok(Table { lines, places })
+        Ok(Table { lines, indices })
     }
 
-    /// How many lines there are. It takes no memory.
+    /// Returns the number of lines. The call does not allocate.
     pub fn len(&self) -> usize
         ensures { result ≡ length self.now }
     {
         self.lines.len()
     }
 
-    /// The line at an index counted from 0, or nothing past the end. It takes no memory.
+    /// Returns the line at index `i`, counted from 0, or `None` if `i` is past the end. The call does not allocate.
     pub fn line(&self, i: usize) -> Option<&Line>
         ensures { option_copied result ≡ slice_get self.now i }
     {
         self.lines.get(i)
     }
 
-    /// The line at a place that the table has, counted from 0. It takes no memory.
-    pub fn line_at(&self, place: usize) -> &Line
-        requires { is_some (slice_get self.now place) ≡ true }
-        ensures { slice_get self.now place ≡ Some result.now }
+    /// Returns the line at index `index`, counted from 0, which must be less than the number of lines. The call does
+    /// not allocate.
+    pub fn line_at(&self, index: usize) -> &Line
+        requires { is_some (slice_get self.now index) ≡ true }
+        ensures { slice_get self.now index ≡ Some result.now }
     {
-        match self.line(place) {
+        match self.line(index) {
             Some(line) => line,
             None => unreachable!(),
         }
     }
 
-    /// The lines as a slice.
+    /// Returns the lines as a slice. The call does not allocate.
     pub fn lines(&self) -> &[Line]
         ensures lines { result.now ≡ self.now }
         ensures distinct { are_distinct self.now ≡ true }
@@ -100,24 +104,25 @@ impl Table {
         self.lines.as_slice()
     }
 
-    /// The index of the line that makes the object at a path. It takes no memory.
-    pub fn place_of(&self, path: &TreePath) -> Option<usize>
-        ensures { result ≡ first_place (makes path.now) self.now }
+    /// Returns the index, counted from 0, of the line that makes or copies an object at a path. It is `None` if there
+    /// is no such line. The call does not allocate.
+    pub fn index_of(&self, path: &TreePath) -> Option<usize>
+        ensures { result ≡ first_index (makes path.now) self.now }
     {
-        self.places.get(path).copied()
+        self.indices.get(path).copied()
     }
 
-    /// The line that makes the object at a path.
+    /// Returns the line that makes or copies an object at a path, if there is one.
     fn making(&self, path: &TreePath) -> Option<&Line>
         ensures { option_copied result ≡ find (makes path.now) self.now }
     {
-        match self.place_of(path) {
-            Some(place) => self.line(place),
+        match self.index_of(path) {
+            Some(index) => self.line(index),
             None => None,
         }
     }
 
-    /// The line that makes what another line makes. It takes no memory.
+    /// Returns the line that makes or copies an object at the path of another such line. The call does not allocate.
     pub(crate) fn like(&self, line: &Line) -> Option<&Line>
         ensures { option_copied result ≡ find (λ first. make_same first line.now) self.now }
     {
@@ -128,17 +133,17 @@ impl Table {
     }
 }
 
-/// Notes the place of a line at the path of what it makes, if it makes something.
-fn note_place(
-    places: &mut IndexMap<TreePath, usize>,
+/// Records the index of a line for its path, if it makes or copies an object.
+fn note_index(
+    indices: &mut IndexMap<TreePath, usize>,
     line: &Line,
-    place: usize,
+    index: usize,
 ) -> Result<(), AllocError>
-    ensures { OnOk result ((q : Path) → get same_path places.new q ≡ cond (makes q line.now) (Some place) (get same_path places.old q)) }
+    ensures { OnOk result ((q : Path) → get same_path indices.new q ≡ cond (makes q line.now) (Some index) (get same_path indices.old q)) }
 {
     match &line.path {
         LinePath::Literal(path) => {
-            places.insert(path.copy()?, place)?;
+            indices.insert(path.copy()?, index)?;
             Ok(())
         }
         LinePath::Glob(_) => Ok(()),

@@ -1,23 +1,24 @@
-//! What a line takes away in the remove phase, and what it keeps in the clean phase.
+//! What a line removes in the remove phase, and what it protects in the clean phase.
 
-/// What removal takes away at a path that a line names (tmpfiles.d(5), r, R and D).
+/// What the remove phase removes at a path that a line names (tmpfiles.d(5), `r`, `R` and `D`).
 #[derive(Clone, Copy)]
 pub enum Taking {
-    /// The object itself, unless it is a directory in which something stays.
+    /// Type `r`: the object itself. A directory stays if something in it stays.
     Itself,
-    /// The object with all that stands below it.
+    /// Type `R`: the object with everything below it.
     Whole,
-    /// What stands below it, if it is a directory.
+    /// Type `D`: everything below the object, if it is a directory.
     Contents,
-    /// Nothing.
+    /// All other types: nothing.
     Nothing,
 }
 
-/// What cleaning spares at a path that a line names (tmpfiles.d(5), x and X).
+/// What the clean phase protects at a path that a line names (tmpfiles.d(5), `x` and `X`).
 #[derive(Clone, Copy)]
 pub enum Sparing {
-    /// The object, and all that stands below it unless the line has an age.
+    /// Type `x`: the object. If the line has no age, everything below it too, except where a line gives a directory
+    /// below it an age.
     Whole,
-    /// The object itself; what stands below it is cleaned as without the line, unless that has an age.
+    /// Type `X`: the object itself. What is below it is cleaned as without the line, unless the line has an age.
     Itself,
 }

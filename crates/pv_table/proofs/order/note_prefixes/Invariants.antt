@@ -1,12 +1,9 @@
-use Rattle.std.proofs.Common.{◌≡◌, ◌&&◌, Some, None, is_some, cond, take}
-use Rattle.std.specs.Option.{option_or}
+use Rattle.std.proofs.Common.{◌-◌, is_some, length}
 use Rattle.indexmap.specs.IndexMap.{get}
-use Rattle.pv_path.specs.Paths.{Path, same_path, is_prefix}
-use Rattle.pv_table.specs.Building.{makes, first_place}
+use Rattle.pv_path.specs.Paths.{same_path}
+use Rattle.pv_table.specs.Building.{makes, first_index}
+use Rattle.pv_table.proofs.FirstLaws.{NotedDownTo}
 use Rattle.pv_table.proofs.order.note_prefixes.Given as goal
 
-abbrev pub invariant-loop-name : goal.invariant-loop-name
-invariant-loop-name l = record {
-  at : l.prefix ≡ take l.name-index l.path;
-  noted : (q : Path) → get same_path l.firsts q ≡ option_or (get same_path l.fn.firsts q) (cond (is_some (first_place (makes q) l.table) && is_prefix q l.prefix) (Some l.place) None);
-}
+abbrev pub invariant-loop-above : goal.invariant-loop-above
+invariant-loop-above l = NotedDownTo (λ q. is_some (first_index (makes q) l.table)) (get same_path l.fn.firsts) (get same_path l.firsts) l.path (length l.path - l.above) l.place
