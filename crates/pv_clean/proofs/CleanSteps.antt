@@ -11,7 +11,7 @@ use Rattle.pv_path.proofs.PathLaws.{is_prefix-append, path_ends, parent_of-push,
 use Rattle.pv_steps.specs.declared.object.Object.{Object}
 use Rattle.pv_steps.specs.declared.step.Step.{Step}
 use Rattle.pv_steps.specs.Objects.{object_state, changed, with_stamps}
-use Rattle.pv_steps.specs.Runs.{after_all, IsNotIdle}
+use Rattle.pv_steps.specs.Runs.{after_all, HasEffect}
 use Rattle.pv_steps.specs.Steps.{Can, after, gone, on_at}
 use Rattle.pv_steps.specs.Trees.{Files, Places, places, child_name, names_below, IsEmptyIn, IsPresent}
 use Rattle.pv_steps.proofs.ActingLaws.{Asks}
@@ -271,7 +271,7 @@ module _ (goes : Path → Bool) (t : Files) (now : ℕ) (whole : (q : Path) → 
           gives = step_clean goes t now p first_there.0 first_there.1;
         }
       where
-        by : (b : Bool) → goes p ≡ b → Can (places u) (cond b (removal_at t p) (giving_back t p)) × IsNotIdle u (cond b (removal_at t p) (giving_back t p)) now
+        by : (b : Bool) → goes p ≡ b → Can (places u) (cond b (removal_at t p) (giving_back t p)) × HasEffect u (cond b (removal_at t p) (giving_back t p)) now
         by true h =
             let removing = removal_asks now p t u (sym (kept-kind now (places t p) (places u p) first_kept)) first_present (first_empty h) (first_nonempty h) in
             (removing.can, removing.busy)

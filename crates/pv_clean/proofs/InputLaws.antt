@@ -1,6 +1,6 @@
 -- Cleaning leaves presence, kind and payload at each path from which lines are read, where none of the lines may change what
 -- is read there: what is cleaned goes by an age that a line gives it from above.
-use Rattle.std.specs.Prelude.{◌≡◌, ℕ, ◌+◌, ◌-◌, ◌==◌, ◌<◌, ◌≤◌, Bool, true, false, cond, not, ◌&&◌, ◌||◌, List, [], ◌∷◌, length, take, drop, Option, None, is_some, option_map, option_and_then}
+use Rattle.std.specs.Prelude.{◌≡◌, ℕ, ◌+◌, ◌-◌, ◌==◌, ◌<◌, ◌≤◌, Bool, true, false, cond, not, ◌&&◌, ◌||◌, List, [], ◌∷◌, length, take, Option, None, is_some, option_map, option_and_then}
 use Rattle.std.proofs.Common.{zero, suc, refl, sym, ap, ◌∙◌, arith}
 use Rattle.std.proofs.lemmas.Bool.{false_from_ne_true, true_from_ne_false, or_right, and_parts}
 use Rattle.std.proofs.lemmas.List.{take-take}
@@ -15,7 +15,6 @@ use Rattle.pv_steps.specs.declared.step.Step.{Step}
 use Rattle.pv_steps.specs.declared.step.Step.TheVariants.{SetStamps, Unlink, RemoveDir}
 use Rattle.pv_steps.specs.Content.{alters, content_of}
 use Rattle.pv_steps.proofs.ContentLaws.{removal_inside}
-use Rattle.pv_steps.specs.Runs.{after_all, Ran}
 use Rattle.pv_steps.specs.Trees.{IsTree, Files, places}
 use Rattle.pv_walk.specs.Edits.{Pruned}
 use Rattle.pv_walk.proofs.WholeLaws.{all_at-each}
@@ -28,9 +27,9 @@ use Rattle.pv_walk.specs.Whole.{all_at}
 use Rattle.pv_layers.specs.Places.{is_input}
 use Rattle.pv_table.specs.Repeatable.{HasReason, takes_named}
 use Rattle.pv_table.specs.Scopes.{first_age, gives_age, inherited, is_exempting, is_sparing_itself, own_scope, scope_at, scope_of_first}
-use Rattle.pv_table.proofs.PlaceLaws.{first_place-none, missing}
+use Rattle.pv_table.proofs.PlaceLaws.{first_index-none, missing}
 use Rattle.pv_clean.specs.Cleaning.{IsCleanStep}
-use Rattle.pv_table.proofs.GoingInput.{MayChange, governs_below, kept_content, kept_on_run, none_passes}
+use Rattle.pv_table.proofs.GoingInput.{MayChange, governs_below, kept_content, none_passes}
 use Rattle.pv_table.proofs.GoingLaws.{any_weaken}
 use Rattle.pv_path.proofs.Tests.{true_not_false}
 
@@ -38,7 +37,7 @@ use Rattle.pv_path.proofs.Tests.{true_not_false}
 
 module _ (lines : List Line) where
   no_age : (path : Path) → list_any (gives_age path) lines ≡ false → first_age lines path ≡ None
-  no_age path none = ap (option_and_then (λ (line : Line). line.age)) (missing (gives_age path) lines (first_place-none (gives_age path) lines none)).1
+  no_age path none = ap (option_and_then (λ (line : Line). line.age)) (missing (gives_age path) lines (first_index-none (gives_age path) lines none)).1
 
   no_scope_at : (path : Path) → list_any (gives_age path) lines ≡ false → scope_at None lines path ≡ None
   no_scope_at path none =
@@ -126,8 +125,3 @@ module _ (lines : List Line) (free : (i : ℕ) → HasReason lines i reason.Inpu
   -- at each moment on the way
   pub cleaning_on_way : (u : Files) → Pruned (is_aged lines now t) t u → (q : Path) → is_input q ≡ true → content_of (places u q) ≡ content_of (places t q)
   cleaning_on_way u way q input = kept_content (is_aged lines now t) t u q way (none_aged q input)
-
-  -- so after each number of the steps of a run
-  pub cleaning_on_run : (Q : Step → Type 0) (h : List Step) (u : Files) (k : List Step) → Ran (Pruned (is_aged lines now t) t) Q now t h u k
-      → (n : ℕ) (q : Path) → is_input q ≡ true → content_of (places (after_all t (take n (drop (length h) k)) now) q) ≡ content_of (places t q)
-  cleaning_on_run Q h u k run n q input = kept_on_run (is_aged lines now t) t Q now h u k run n q (none_aged q input)

@@ -1,4 +1,5 @@
--- The manual's sentence on what is aged, said of a path by what is aged of what stands in it (tmpfiles.d(5), "Age", x and X).
+-- What the manual says is cleaned, as a rule for each path by what is cleaned of its entries (tmpfiles.d(5), "Age", x
+-- and X).
 use Rattle.std.specs.Prelude.{ℕ, Bool, not, ◌&&◌, ◌==◌, List, length}
 use Rattle.std.specs.List.{list_any}
 use Rattle.pv_lines.specs.declared.line.Line.{Line}
@@ -9,8 +10,10 @@ use Rattle.pv_table.specs.Reaching.{names}
 use Rattle.pv_table.specs.Scopes.{scope}
 use Rattle.pv_table.specs.Children.{children_go}
 
--- a present path other than the root is aged if no line names it, the object there is old by the age of the directory in
--- which it stands, which does not spare it, and it is not a directory or all that stands in it is aged
+-- A path is aged if all of these hold:
+-- - It is not the root, and no line names it.
+-- - Its object exists and is old by the age for its directory, and this age does not spare it.
+-- - It is not a directory, or all of its entries are aged.
 abbrev pub is_aged_by : (Path → Bool) → List Line → ℕ → Files → Path → Bool
 is_aged_by aged lines now t path =
     not (length path == 0) && not (list_any (λ line. names line path) lines)

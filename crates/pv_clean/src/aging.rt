@@ -1,4 +1,4 @@
-//! What may go by itself.
+//! Which objects may be removed by their age, each considered alone.
 ghost use Rattle.std.specs.Prelude.{◌≡◌, ◌≢◌, ◌&&◌, ◌++◌, ◌∷◌, [], length, map, slice_get, unwrap_or, Some, None, is_some, IfOk, OnOk};
 ghost use Rattle.std.specs.List.{list_any};
 ghost use Rattle.pv_path.specs.Paths.{Path, parent_of};
@@ -18,28 +18,32 @@ use pv_walk::{below, is_among};
 use std::alloc::{AllocError, Global};
 use std::collections::BTreeSet;
 
-/// By what the objects of a tree are judged.
+/// What the objects of a tree are judged by.
 #[derive(Drop)]
 struct Aging<'a, T: Tree> {
-    /// The tree in which they stand.
+    /// The tree.
     tree: &'a T,
     /// The lines.
     table: &'a Table,
     /// The present paths that some line names.
     named: &'a BTreeSet<TreePath>,
-    /// The time of the run.
+    /// The time of the run, in microseconds since 1970-01-01 UTC.
     time: u64,
 }
 
-/// A path, and whether the object there may be removed by itself.
+/// A path, and whether its object may be removed by its age. What is in a directory does not count here.
 #[derive(Drop)]
 pub(crate) struct Judged {
+    /// The path.
     pub(crate) path: TreePath,
+    /// Whether the object at the path may be removed by its age.
     pub(crate) may_go: bool,
 }
 
-/// All that stands in a tree, each directory before what is in it, and whether it may go by itself (tmpfiles.d(5), "Age",
-/// x and X). From its end on the list has the children of a directory in byte order, each with all below it first.
+/// Judges all objects of a tree by their age (tmpfiles.d(5), "Age", x and X). The list has each directory before what
+/// is in it.
+///
+/// Read from its end, the list has the children of a directory in byte order, each with everything below it first.
 pub(crate) fn all_judged<T: Tree>(
     alloc: Global,
     tree: &T,
@@ -61,8 +65,10 @@ pub(crate) fn all_judged<T: Tree>(
     judge_all(alloc, &aging, root, listed)
 }
 
-/// Judges the root and a listing of all objects below it. The age for the objects in a directory is looked for once. It
-/// is kept by the directory's depth while the listing stays inside of the directory.
+/// Judges the root and a listing of all objects below it.
+///
+/// The age for the objects in a directory is looked up once. It is kept by the directory's depth while the listing
+/// stays inside the directory.
 fn judge_all<T: Tree>(
     alloc: Global,
     aging: &Aging<'_, T>,
@@ -93,7 +99,7 @@ fn judge_all<T: Tree>(
     Ok(judged)
 }
 
-/// Judges a path below the root, and notes the age for what stands in it if it is a directory.
+/// Judges a path below the root. If it is a directory, it notes the age for what is in it.
 fn judge<T: Tree>(
     aging: &Aging<'_, T>,
     path: TreePath,
@@ -116,7 +122,7 @@ fn judge<T: Tree>(
     Ok(Judged { path, may_go })
 }
 
-/// The age that is kept at a number of names.
+/// Returns the age that is kept for a depth, if there is one.
 fn age_at(ages: &Vec<Option<Scope>>, count: usize) -> Option<Scope>
     ensures { result ≡ unwrap_or (slice_get ages.now.items count) None }
 {
@@ -126,7 +132,7 @@ fn age_at(ages: &Vec<Option<Scope>>, count: usize) -> Option<Scope>
     }
 }
 
-/// Whether a path below the root may go by itself: no line names it, and it is old by the age of its directory.
+/// Returns whether a path below the root may go by itself: no line names it, and it is old by the age of its directory.
 #[tactic(auto, using(crate::proofs::AgeLaws::one_may))]
 fn may_go<T: Tree>(aging: &Aging<'_, T>, around: Option<Scope>, path: &TreePath) -> bool
     requires named { (q : Path) → is_one_of aging.now.named.now.keys q
@@ -138,8 +144,8 @@ fn may_go<T: Tree>(aging: &Aging<'_, T>, around: Option<Scope>, path: &TreePath)
     !is_among(aging.named, path) && is_old_by(aging.tree, around, aging.time, path)
 }
 
-/// Whether the object at a path is old by an age. An age that spares the first level finds no direct child of its
-/// directory old.
+/// Returns whether the object at a path is old by an age. An age that spares the first level finds no direct child of
+/// its directory old.
 fn is_old_by<T: Tree>(tree: &T, scope: Option<Scope>, now: u64, path: &TreePath) -> bool
     ensures { result ≡ is_old_by scope now (places (T.state tree.now) path.now) }
 {

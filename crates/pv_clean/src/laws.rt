@@ -1,4 +1,6 @@
-//! Laws of what cleaning removes, and of its intermediate states. Each function does nothing; its contract is the law.
+//! Laws of what cleaning removes, and of its intermediate states. Each function does nothing, and its contract is the
+//! law. A path is aged if a complete clean that begins now, from this tree, removes it. The input paths are those that
+//! configuration lines are read from: the folders of tmpfiles.d(5) with all below them, /etc/passwd and /etc/group.
 ghost use Rattle.std.specs.Prelude.{◌≡◌, ◌⊎◌, ℕ, Bool, List, is_some, true};
 ghost use Rattle.std.specs.List.{list_any};
 ghost use Rattle.pv_lines.specs.declared.line.Line.{Line as LineValue};
@@ -14,37 +16,46 @@ ghost use Rattle.pv_table.specs.Reaching.{governs};
 ghost use Rattle.pv_table.specs.Repeatable.{HasReason};
 ghost use Rattle.pv_clean.specs.Sentences.{is_aged_by};
 
-/// What a stopped clean phase has removed is aged in the tree in which it began. All else is as it was, without regard
-/// to timestamps.
+/// States that a stopped clean phase has removed only what was aged at its beginning. All else is as it was, except for
+/// timestamps.
 pub fn a_stopped_clean_took_what_is_aged()
     ensures { (lines : List LineValue) (now : ℕ) (t u : Files) (q : Path) → Pruned (is_aged lines now t) t u
         → ((is_aged lines now t q ≡ true) × IsAbsentIn (places u) q) ⊎ (object_states (places u) q ≡ object_states (places t) q) }
 {}
 
-/// Cleaning keeps what lines are read from, if no line may change that. In each intermediate state presence, kind and
-/// payload are as before at each path from which lines are read.
+/// States that cleaning changes no input path in any intermediate state, if no line has the hazard `input`.
+///
+/// Each input path is absent as before, or has the same kind and the same content.
 pub fn a_cleaning_leaves_what_lines_are_read_from()
     ensures { (lines : List LineValue) (now : ℕ) (t u : Files) (q : Path) → IsTree t
         → ((i : ℕ) → HasReason lines i reason.Input → ⊥) → Pruned (is_aged lines now t) t u → is_input q ≡ true
         → content_of (places u q) ≡ content_of (places t q) }
 {}
 
-/// The paths that are aged are those of the manual. A path other than the root is aged exactly if the following hold.
-/// No line names it. Its object is old by the age of the directory in which it lies, which does not spare it. It is not
-/// a directory, or all in it is aged.
+/// States that the paths that are aged are those of the manual (tmpfiles.d(5), "Age", x and X).
+///
+/// A path other than the root is aged exactly if these hold:
+///
+/// - No line names it.
+/// - Its object is old by the age of its directory, and this age does not spare it. An age with the prefix `~` spares
+///   what is directly in the directory for which a line gives it.
+/// - It is not a directory, or everything in it is aged.
 pub fn what_is_aged_is_as_the_manual_says()
     ensures { (lines : List LineValue) (now : ℕ) (t : Files) (q : Path) → IsTree t
         → is_aged lines now t q ≡ is_aged_by (is_aged lines now t) lines now t q }
 {}
 
-/// Nothing else is as the manual says: what meets its sentence at each present path is what is aged of these paths.
+/// States that no other set of paths is as the manual says.
+///
+/// The manual's rule is that of the law above, with its conditions. If a set obeys this rule at each present path, then
+/// the present paths in the set are exactly the aged ones.
 pub fn only_what_is_aged_is_as_the_manual_says()
     ensures { (lines : List LineValue) (now : ℕ) (t : Files) (aged : Path → Bool) → IsTree t
         → ((q : Path) → is_some (places t q) ≡ true → aged q ≡ is_aged_by aged lines now t q)
         → (q : Path) → is_some (places t q) ≡ true → aged q ≡ is_aged lines now t q }
 {}
 
-/// What is aged is governed by a line.
+/// States that a line governs each path that is aged.
 pub fn what_is_aged_is_governed()
     ensures { (lines : List LineValue) (now : ℕ) (t : Files) (q : Path) → is_aged lines now t q ≡ true
         → list_any (λ line. governs line q) lines ≡ true }

@@ -1,4 +1,5 @@
-//! The clean phase: which objects are old enough to go, and taking them away.
+//! The clean phase of systemd-tmpfiles (tmpfiles.d(5), "Age"; systemd-tmpfiles(8), `--clean`). [`clean_run`] removes
+//! what is older than the age of its directory.
 #![tactic(auto)]
 
 mod aging;

@@ -13,7 +13,7 @@ use pv_table::named_paths;
 use std::alloc::{AllocError, Global};
 use std::collections::BTreeSet;
 
-/// The present paths that some line names.
+/// Returns the present paths that some line names.
 pub(crate) fn all_named<T: Tree>(
     alloc: Global,
     tree: &T,

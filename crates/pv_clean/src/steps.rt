@@ -1,4 +1,4 @@
-//! What a clean phase does at each path.
+//! The steps of a clean phase.
 ghost use Rattle.std.specs.Prelude.{◌≡◌, ℕ, List, ◌&&◌, not, length, unwrap_or, slice_get, reverse, if◌then◌else◌, [], ◌∷◌, ◌++◌, false, IfOk, OnOk};
 ghost use Rattle.pv_lines.specs.declared.line.Line.{Line as LineValue};
 ghost use Rattle.pv_steps.specs.Trees.{IsTree};
@@ -13,20 +13,21 @@ use pv_steps::{Step, Tree};
 use pv_walk::removal;
 use std::alloc::{AllocError, Global};
 
-/// What is known of the children of directories, by the depth of the directory. The children are those that come after
-/// a path. They are in a list that has all below a directory right after it.
+/// What is known of the children of directories, by the depth of the directory. These are the children that come after
+/// a path in a list that has everything below a directory right after it.
 #[derive(Drop)]
 struct Levels {
-    /// Whether one of them stays.
+    /// For each depth, whether one of these children stays.
     staying: Vec<bool>,
-    /// Whether one of them goes.
+    /// For each depth, whether one of these children goes.
     going: Vec<bool>,
 }
 
-/// The steps of a clean phase, by what may be removed by itself. An object is removed with all below it, and a
-/// directory that stays and loses a child gets its timestamps back. From its end on the list has the steps of the
-/// children of a directory in byte order, each after those of all below it. Then comes the step of the directory. No
-/// path is looked up to learn of its children, since they were judged right before it.
+/// Returns the steps of a clean phase, for a list of what may go by its age.
+///
+/// An object is removed with everything below it. A directory that stays and loses a child gets its timestamps back.
+/// The steps of the children of a directory come in byte order, each after those of everything below it. The step of
+/// the directory comes last. No path is looked up to learn of its children, since they were judged right before it.
 pub(crate) fn clean_steps<T: Tree>(
     alloc: Global,
     tree: &T,
@@ -49,7 +50,7 @@ pub(crate) fn clean_steps<T: Tree>(
     Ok(steps)
 }
 
-/// Adds the step at a path that goes or loses a child, as its children were judged before.
+/// Adds the step at a path that goes or loses a child. Its children were judged before.
 fn add_step<T: Tree>(
     tree: &T,
     next: Judged,
@@ -97,7 +98,7 @@ fn add_due<T: Tree>(
     Ok(())
 }
 
-/// Whether something is noted at a number of names.
+/// Returns whether something is noted for a depth.
 fn is_noted(level: &Vec<bool>, count: usize) -> bool
     ensures { result ≡ unwrap_or (slice_get level.now.items count) false }
 {
@@ -107,8 +108,7 @@ fn is_noted(level: &Vec<bool>, count: usize) -> bool
     }
 }
 
-/// Notes something of a path of so many names at the number of its directory's names, and forgets what is noted at larger
-/// numbers.
+/// Notes something of a path of this depth for the depth of its directory, and forgets what is noted for larger depths.
 fn note(level: &mut Vec<bool>, count: usize, is: bool) -> Result<(), AllocError>
     ensures { OnOk result ((k : ℕ) → unwrap_or (slice_get level.new.items k) false
         ≡ noted count is (λ j. unwrap_or (slice_get level.old.items j) false) k) }
@@ -120,8 +120,10 @@ fn note(level: &mut Vec<bool>, count: usize, is: bool) -> Result<(), AllocError>
     Ok(())
 }
 
-/// The step that gives a path the timestamps of access and modification that stand there now, 0 where nothing does
-/// (utimensat(2)). It takes no memory.
+/// Returns the step that gives a path the access and modification times that it has now (utimensat(2)). The call does
+/// not allocate.
+///
+/// If the path is absent, the times are 0.
 fn giving_back<T: Tree>(tree: &T, path: TreePath) -> Step
     ensures { result ≡ giving_back (T.state tree.now) path }
 {

@@ -59,7 +59,7 @@ use Rattle.pv_table.specs.Saying.{found}
 use Rattle.pv_table.specs.Turns.{Turn, View, Refused, view_of, copied, has_something, decide, making_turn, copying_turn, refused_at}
 use Rattle.pv_steps.specs.Courses.{Course, Partway}
 use Rattle.pv_create.specs.Reached.{IsPartSet}
-use Rattle.pv_create.specs.OnWay.{OnWay, IsMidway, IsClearing, turn_at, sets_at, puts_parents, turn_course}
+use Rattle.pv_create.specs.OnTheWay.{OnWay, IsMidway, IsClearing, turn_at, sets_at, puts_parents, turn_course, LineWay, lines_course}
 use Rattle.pv_laws.specs.Copying.{IsCopyMidway, turn_of, OnWayOf, PartwayOf}
 use Rattle.pv_laws.specs.Stopping as stopping
 use Rattle.pv_laws.specs.Stopping.{IsRenewal}
@@ -73,7 +73,6 @@ use Rattle.pv_laws.proofs.Making.{is_dir, IsShaped, does_stay, turn_by, IsPlainD
 use Rattle.pv_laws.proofs.Repeated.{first_makes}
 use Rattle.pv_laws.proofs.Sets.{impossible, is_adjustment, IsAsked, IsMaking, line_is_making, asked, sets_adjust, deep_repeatable}
 use Rattle.pv_laws.proofs.Adjustment.{turn_open, adjust_point, own_path, once_named, to_adjusts}
-use Rattle.pv_create.specs.Ways.{LineWay, lines_course}
 use Rattle.pv_create.proofs.LineWays.{WayOf, adjustment_course, way_of}
 
 -- ---- operations, whole and in front parts

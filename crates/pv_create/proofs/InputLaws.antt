@@ -42,7 +42,7 @@ use Rattle.pv_table.specs.Asked.{operations}
 use Rattle.pv_table.specs.Pointwise.{adjusts_path}
 use Rattle.pv_table.specs.ActionTable.{action_of, actions, is_writing, mode_to_set, owners_and_mode, set_by, taking_of, without_links}
 use Rattle.pv_table.specs.Created.{by_line}
-use Rattle.pv_table.specs.Reaching.{governs, is_creating, names}
+use Rattle.pv_table.specs.Reaching.{governs, is_creating}
 use Rattle.pv_layers.specs.Places.{is_input}
 use Rattle.pv_table.specs.Repeatable.{HasReason, IsAt, changes_content, takes_named}
 use Rattle.pv_steps.specs.Courses.{Partway}
@@ -54,7 +54,7 @@ use Rattle.pv_laws.proofs.Making.{nothing_unnamed, IsShaped}
 use Rattle.pv_table.proofs.ListedLaws.{all_in_order}
 use Rattle.pv_laws.proofs.Sets.{impossible}
 use Rattle.pv_laws.proofs.Shapes.{tree_shaped}
-use Rattle.pv_create.specs.Ways.{lines_course}
+use Rattle.pv_create.specs.OnTheWay.{lines_course}
 use Rattle.pv_create.proofs.BridgeLaws.{line_way, line_whole}
 use Rattle.pv_path.proofs.Tests.{true_not_false}
 

@@ -43,7 +43,7 @@ use Rattle.pv_table.specs.Saying.{found}
 use Rattle.pv_table.specs.Turns.{Turn, copied}
 use Rattle.pv_steps.specs.Courses.{Partway, IsStepOfSome}
 use Rattle.pv_create.specs.Adjusting.{GivesBytes, GivesSet}
-use Rattle.pv_create.specs.OnWay.{IsStepOf, turn_at}
+use Rattle.pv_create.specs.OnTheWay.{IsStepOf, turn_at, IsLineStep, lines_course}
 use Rattle.pv_laws.proofs.AllFrames.{not_above, not_below, each_kept}
 use Rattle.pv_laws.proofs.Frames.{IsFree, ungoverned, creates, midway_frame}
 use Rattle.pv_laws.proofs.Lines.{copy_path, line_is_plain, turns_adjust}
@@ -51,7 +51,6 @@ use Rattle.pv_laws.proofs.Making.{IsShaped, dir_there}
 use Rattle.pv_table.proofs.ListedLaws.{all_in_order, all_map, all_tests}
 use Rattle.pv_laws.proofs.Sets.{impossible}
 use Rattle.pv_laws.proofs.Shapes.{tree_shaped}
-use Rattle.pv_create.specs.Ways.{IsLineStep, lines_course}
 use Rattle.pv_create.proofs.LineWays.{IsStepBy, step_of, adjustment_course}
 use Rattle.pv_create.proofs.BesideLaws.{object_state_outside, new_outside, other_plain, out_above, place_outside, published_outside, swept_outside}
 use Rattle.pv_create.proofs.BridgeLaws.{gone_at}

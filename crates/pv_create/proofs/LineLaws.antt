@@ -10,7 +10,7 @@ use Rattle.pv_steps.proofs.CarryingLaws.{carried_none, Underway, underway_start,
 use Rattle.pv_steps.proofs.CourseLaws.{cut_start, none_left, partway_start, single_start}
 use Rattle.pv_lines.specs.declared.line.Line.{Line}
 use Rattle.pv_create.specs.Actions.{IsTurn}
-use Rattle.pv_create.specs.OnWay.{plain_course, turn_course}
+use Rattle.pv_create.specs.OnTheWay.{plain_course, turn_course, LineWay, LineCut, line_course}
 use Rattle.pv_create.proofs.TurnLaws.{turn_start}
 use Rattle.pv_path.specs.Paths.{Path}
 use Rattle.pv_path.proofs.Tests.{next_item}
@@ -25,7 +25,6 @@ use Rattle.pv_table.specs.declared.action.Adjustment.{Adjustment}
 use Rattle.pv_table.specs.ActionTable.{action_of}
 use Rattle.pv_table.specs.Effects.{turns}
 use Rattle.pv_table.specs.Reaching.{path_in}
-use Rattle.pv_create.specs.Ways.{LineWay, LineCut, line_course}
 use Rattle.pv_create.proofs.LineWays.{making_turns, copying_turns, idle_turns}
 
 -- ---- nothing is done yet

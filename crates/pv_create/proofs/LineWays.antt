@@ -4,7 +4,7 @@ use Rattle.std.proofs.Common.{refl, subst, inl, inr}
 use Rattle.pv_create.specs.Reached.{AdjustingInOrder, GivesReached}
 use Rattle.pv_steps.specs.Courses.{Course, Partway, IsStepOfSome, single}
 use Rattle.pv_lines.specs.declared.line.Line.{Line}
-use Rattle.pv_create.specs.OnWay.{OnWay, IsStepOf, IsStepAt, TurnWay, plain_course, turn_course}
+use Rattle.pv_create.specs.OnTheWay.{OnWay, IsStepOf, IsStepAt, TurnWay, plain_course, turn_course, LineWay, IsLineStep}
 use Rattle.pv_path.specs.Paths.{Path}
 use Rattle.pv_steps.specs.declared.step.Step.{Step}
 use Rattle.pv_steps.specs.Same.{Same}
@@ -18,7 +18,6 @@ use Rattle.pv_table.specs.ActionTable.{action_of}
 use Rattle.pv_table.specs.Created.{by_turn}
 use Rattle.pv_table.specs.Effects.{turn_after, turns}
 use Rattle.pv_table.specs.Reaching.{path_in}
-use Rattle.pv_create.specs.Ways.{LineWay, IsLineStep}
 
 -- a line that adjusts what is there, at one path
 abbrev pub adjustment_course : ℕ → Line → Adjustment → Course Path

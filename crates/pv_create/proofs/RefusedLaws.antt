@@ -16,7 +16,7 @@ use Rattle.pv_text.specs.GivenMessages.{message_text_at}
 use Rattle.pv_table.specs.Effects.{turn_after}
 use Rattle.pv_table.specs.Saying.{refused_text, turn_messages}
 use Rattle.pv_table.specs.Turns.{Refused, refused_at}
-use Rattle.pv_create.specs.OnWay.{plain_course, turn_course}
+use Rattle.pv_create.specs.OnTheWay.{plain_course, turn_course}
 use Rattle.pv_create.proofs.ToldLaws.{none_asked, told_first}
 use Rattle.pv_create.proofs.TurnLaws.{turn_start}
 

@@ -18,7 +18,7 @@ use Rattle.pv_table.specs.Saying.{found}
 use Rattle.pv_table.specs.Turns.{Turn}
 use Rattle.pv_walk.specs.Copying.{Subtree}
 use Rattle.pv_walk.specs.Replacing.{AreDirectories, CanReplace}
-use Rattle.pv_create.specs.OnWay.{OnWay, IsMidway, turn_at, sets_at, puts_parents}
+use Rattle.pv_create.specs.OnTheWay.{OnWay, IsMidway, turn_at, sets_at, puts_parents}
 use Rattle.pv_laws.proofs.Making.{ready_here}
 use Rattle.pv_laws.proofs.Sets.{impossible}
 use Rattle.pv_laws.proofs.Shapes.{tree_shaped}

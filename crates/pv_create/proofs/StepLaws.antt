@@ -37,7 +37,7 @@ use Rattle.pv_table.specs.declared.action.Adjustment.{Adjustment}
 use Rattle.pv_table.specs.Active.{in_create_order}
 use Rattle.pv_table.specs.Asked.{operations}
 use Rattle.pv_table.specs.ActionTable.{action_of}
-use Rattle.pv_table.specs.Created.{by_turn, by_line, IsQuiet}
+use Rattle.pv_table.specs.Created.{by_turn, by_line, RefusesNoLine}
 use Rattle.pv_steps.specs.Doing.{after_each, one_is_refused}
 use Rattle.pv_table.specs.Effects.{carried_out, is_adjusted, prepare, turn_after, turns}
 use Rattle.pv_table.specs.Pointwise.{after_turn, parent_object_state, ObjectStates}
@@ -47,7 +47,7 @@ use Rattle.pv_table.specs.Saying.{found}
 use Rattle.pv_table.specs.Turns.{Turn, View, view_of, copied, copy_of, copying_turn, making_turn, has_something, decide}
 use Rattle.pv_create.specs.Adjusting.{GivesBytes}
 use Rattle.pv_steps.specs.Courses.{IsStepOfSome}
-use Rattle.pv_create.specs.OnWay.{IsStepOf, turn_at, puts_parents}
+use Rattle.pv_create.specs.OnTheWay.{IsStepOf, turn_at, puts_parents, Gives, IsGiven, GiveWhatLinesLeave, IsLineStep, lines_course}
 use Rattle.pv_walk.specs.Copying.{GivesObjectState, Subtree, single}
 use Rattle.pv_laws.specs.Copying.{turn_of}
 use Rattle.pv_laws.specs.Moments.{Agree}
@@ -62,8 +62,6 @@ use Rattle.pv_table.proofs.ListedLaws.{all_map, all_tests}
 use Rattle.pv_laws.proofs.Sets.{impossible, is_adjustment, IsMaking, line_is_making, deep_repeatable}
 use Rattle.pv_laws.proofs.Shapes.{plain_prefix, tree_shaped}
 use Rattle.pv_laws.proofs.Adjustment.{turn_open, first_turn, adjust_point, touched_all, set_if, set_by_each, set_by_any, set_never, own_path, adjusts, once_named}
-use Rattle.pv_create.specs.OnTheWay.{Gives, IsGiven, GiveWhatLinesLeave}
-use Rattle.pv_create.specs.Ways.{IsLineStep, lines_course}
 use Rattle.pv_create.proofs.LineWays.{IsStepBy, step_of, adjustment_course}
 
 -- ---- what single steps give
@@ -411,7 +409,7 @@ lines_left now (line ∷ lines) safe t shape quiet step (inr later) =
     record { k = suc left.k; path = left.path; plain = left.plain; object = left.object; there = left.there; gives = left.gives }
 
 module _ (table : List Line) (are : AllByRecursion IsLine table) where
-  pub step_given : (now : ℕ) (t : Files) → IsTree t → (s : ObjectStates) → IsRepeatable table → IsQuiet table now t → Agree s t → (step : Step) → IsStepOfSome (lines_course now) (in_create_order table) t step → IsGiven table s step
+  pub step_given : (now : ℕ) (t : Files) → IsTree t → (s : ObjectStates) → IsRepeatable table → RefusesNoLine table now t → Agree s t → (step : Step) → IsStepOfSome (lines_course now) (in_create_order table) t step → IsGiven table s step
   step_given now t tree s repeatable quiet agree step g =
       let left = lines_left now (in_create_order table) (all_safe table are repeatable) t (tree_shaped (places t) tree) quiet step g in
       record {

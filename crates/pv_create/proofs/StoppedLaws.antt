@@ -19,8 +19,7 @@ use Rattle.pv_laws.proofs.AllFrames.{stopped_frame}
 use Rattle.pv_laws.proofs.CopyWays.{copies_on_the_way}
 use Rattle.pv_laws.proofs.Shapes.{tree_shaped}
 use Rattle.pv_create.specs.Recovery.{Recovers, RecoversAgain, IsStoppedAgain}
-use Rattle.pv_create.specs.OnTheWay.{IsFramed, IsStoppedBetween}
-use Rattle.pv_create.specs.Ways.{lines_course}
+use Rattle.pv_create.specs.OnTheWay.{IsFramed, IsStoppedBetween, lines_course}
 use Rattle.pv_create.proofs.BridgeLaws.{run_way}
 
 module _ (table : List Line) (are : AllByRecursion IsLine table) (Q : Step → Type 0) (now : ℕ) (t : Files) (h : List Step) (u : Files) (k : List Step) (fits : now < 2 ^ 64) (tree : IsTree t)

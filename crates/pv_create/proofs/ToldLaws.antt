@@ -1,5 +1,5 @@
 -- Laws of what a line at a path says: one that makes nothing and copies nothing says it before it asks for a step.
-use Rattle.std.specs.Prelude.{◌≡◌, ℕ, ◌+◌, ◌-◌, ◌≤◌, false, List, [], ◌++◌, length, Result}
+use Rattle.std.specs.Prelude.{◌≡◌, ℕ, ◌+◌, ◌-◌, ◌≤◌, false, List, ◌++◌, length, Result}
 use Rattle.std.proofs.Common.{refl, sym, ap, ◌∙◌, arith, length-append}
 use Rattle.std.proofs.lemmas.List.{append_cancel_left}
 use Rattle.pv_steps.specs.Courses.{CarriesOut}
@@ -8,7 +8,7 @@ use Rattle.pv_lines.specs.declared.line.Line.{Line}
 use Rattle.pv_path.specs.Paths.{Path}
 use Rattle.pv_steps.specs.declared.tree.Tree.{Ghosts}
 use Rattle.pv_steps.specs.declared.tree.TreeFault.{TreeFault}
-use Rattle.pv_steps.specs.Acting.{asked, refused, Acted}
+use Rattle.pv_steps.specs.Acting.{asked, refused}
 use Rattle.pv_steps.specs.Trees.{Files}
 use Rattle.pv_steps.specs.declared.step.Step.{Step}
 use Rattle.pv_table.specs.declared.action.Action.{Action}
@@ -16,7 +16,7 @@ use Rattle.pv_table.specs.declared.action.Action.TheVariants.{Create, Copy, Adju
 use Rattle.pv_table.specs.ActionTable.{action_of}
 use Rattle.pv_table.specs.Created.{by_turn}
 use Rattle.pv_create.specs.Actions.{makes}
-use Rattle.pv_create.specs.OnWay.{TurnCut, plain_course, turn_course}
+use Rattle.pv_create.specs.OnTheWay.{plain_course, turn_course}
 use Rattle.pv_create.specs.Turning.{ready_work}
 
 module _ {S : Type 0} (tree : Ghosts S) (now : ℕ) (line : Line) (path : Path) (a b : S) (old new : List (List ℕ)) (r : Result Carried TreeFault) where

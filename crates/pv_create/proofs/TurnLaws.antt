@@ -35,7 +35,7 @@ use Rattle.pv_walk.specs.Copying.{Subtree, with_subtree}
 use Rattle.pv_walk.specs.Preparing.{IsPreparing, Preparing, parent_file}
 use Rattle.pv_walk.specs.Replacing.{AreDirectories, CanReplace, Replacing}
 use Rattle.pv_walk.specs.Staging.{new_object}
-use Rattle.pv_create.specs.OnWay.{turn_at, puts_parents, sets_at, IsMidway, IsClearing, OnWay, IsStepOf, TurnWay, IsStepAt, turn_course}
+use Rattle.pv_create.specs.OnTheWay.{turn_at, puts_parents, sets_at, IsMidway, IsClearing, OnWay, IsStepOf, TurnWay, IsStepAt, turn_course}
 use Rattle.pv_create.specs.Turning.{Readying, IsReadyStep, ready_work, prepare_work, Turning, IsTurnStep, settled, Settling, IsSettleStep, settle_work}
 use Rattle.pv_create.proofs.AbsentSource.{says_nothing}
 use Rattle.pv_create.proofs.PuttingLaws.{put_object_states}

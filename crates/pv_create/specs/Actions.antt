@@ -1,4 +1,4 @@
--- A line at a path at which it is carried out: what it asks for is as it has to be (tmpfiles.d(5)).
+-- A line at a path at which it is carried out, and what its action has to be like (tmpfiles.d(5)).
 use Rattle.std.specs.Prelude.{◌≡◌, ◌≢◌, ◌<◌, ◌≤◌, ◌^◌, Bool, true, false, [], length, Option, Some, None, IfSome}
 use Rattle.std.specs.Option.{option_map_or}
 use Rattle.pv_create.specs.Sets.{AreSets}
@@ -21,13 +21,15 @@ use Rattle.pv_create.specs.declared.line_at.LineAt.{LineAt}
 
 -- ---- what a line asks for
 
--- what a line makes: a new object, what may be set of what is there, and at the root a directory that stays
+-- What a line makes: a new object, and what it sets of an existing one. At the root it can only be a directory, and
+-- the directory there stays.
 pub record IsMaking (path : Path) (making : Making) : Type 0 where
   pub new : IsNewFile making.new
   pub sets : AreSets making.sets
   pub root : path ≡ [] → (new_kind making.new.what ≡ Directory) × (option_map_or (λ (test : Test). test.exact) making.renew false ≡ false)
 
--- what a line copies: to a path below the root, with a mode and owners that an object may have
+-- What a line copies. Its path is not the root, and the source has fewer than 2^32 components. The mode and the
+-- owners, if they are given, are such as an object may have.
 pub record IsCopying (path : Path) (copying : Copying) : Type 0 where
   pub nonempty : path ≢ []
   pub few : length copying.source < 2 ^ 32
@@ -36,41 +38,42 @@ pub record IsCopying (path : Path) (copying : Copying) : Type 0 where
   pub gid : IfSome copying.gid IsId
   pub sets : AreSets copying.sets
 
--- what a line asks for at a path
+-- What a line asks for at a path.
 abbrev pub IsAction : Path → Action → Type 0
 IsAction path (Create making) = IsConfigured path × IsMaking path making
 IsAction path (Copy copying) = IsConfigured path × IsCopying path copying
 IsAction path (Adjust adjustment) = AreSets adjustment.sets
 IsAction path Idle = ⊥
 
--- whether it makes something or copies
+-- Whether a line makes or copies an object.
 abbrev pub makes : Action → Bool
 makes (Create making) = true
 makes (Copy copying) = true
 makes action = false
 
--- what it sets where it only adjusts what is there
+-- What a line sets, if it adjusts existing objects.
 abbrev pub adjustment_of : Action → Option Adjustment
 adjustment_of (Adjust adjustment) = Some adjustment
 adjustment_of action = None
 
 -- ---- where it is carried out
 
--- a path at which a line is carried out: its own, or one that it names and at which something stands
+-- A path at which a line is carried out. A line that makes or copies has its own path. A line that adjusts has an
+-- existing path that it names.
 abbrev pub IsTurn : Action → Line → Path → Files → Type 0
 IsTurn (Create making) line path t = path ≡ path_in line.path
 IsTurn (Copy copying) line path t = path ≡ path_in line.path
 IsTurn (Adjust adjustment) line path t = (names line path ≡ true) × IsPresent t path
 IsTurn Idle line path t = ⊥
 
--- a line as read, with what it asks for, at such a path
+-- A line as it was read, with its action and a path at which it is carried out.
 pub record IsLineAt (at : LineAt) (t : Files) : Type 0 where
   pub whole : IsLine at.line.now
   pub asked : action_of at.line.now ≡ at.action.now
   pub turn : IsTurn at.action.now at.line.now at.path.now t
 
--- a path is ready: the directory of what is to come is there, and nothing stands at its staging name; or what is to be
--- adjusted is there
+-- A path is ready. If the line adjusts, the object exists. Otherwise the directory above the path exists, and nothing
+-- is at the path's staging name.
 abbrev pub IsReady : Action → Path → Files → Type 0
 IsReady (Adjust adjustment) path t = IsPresent t path
 IsReady action path t = (path ≢ [] → IsKind Directory t (parent_of path)) × (path ≢ [] → IsAbsentIn (places t) (staging_of path))

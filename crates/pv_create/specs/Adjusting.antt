@@ -1,5 +1,5 @@
--- Adjusting an object that is there: each step on the way, and what each may have left (write(2), chown(2), chmod(2),
--- acl(5), xattr(7), chattr(1)).
+-- Adjusting an existing object: its steps, and the intermediate states (write(2), chown(2), chmod(2), acl(5),
+-- xattr(7), chattr(1)).
 use Rattle.std.specs.Prelude.{◌≡◌, ◌⊎◌, ℕ, List, take, Option, Some, None, if◌then◌else◌}
 use Rattle.pv_path.specs.Names.{same_bytes}
 use Rattle.pv_path.specs.Paths.{Path, same_path}
@@ -19,28 +19,28 @@ use Rattle.pv_walk.specs.Nodes.{object_state_of, object_states_of}
 use Rattle.pv_walk.specs.Operations.{run}
 use Rattle.pv_create.specs.declared.wanted.Wanted.{Wanted}
 
--- on the way, timestamps aside: the first of the sets, in parts, are done to the object at the path, and nothing else has
--- changed
+-- An intermediate state, timestamps aside. The first k of the changes are done to the object at the path, and nothing
+-- else has changed.
 abbrev pub Adjusting : Path → List Operation → Files → Files → Type 0
 Adjusting path sets t u =
     (k : ℕ) × ((q : Path) → object_states_of (places u) q ≡ (if same_path path q then run (take k (parts sets)) (object_states_of (places t) q) else object_states_of (places t) q))
 
--- a step gives the file at the path bytes that it lacks
+-- A step writes bytes to the file at the path, which has other bytes.
 abbrev pub GivesBytes : Path → List ℕ → Files → Step → Type 0
 GivesBytes path bytes t step = (step ≡ Write path bytes) × Lacks (λ o. o.payload) bytes path t
 
--- a step gives the object at the path a part of what it is to be when all is set: bytes, owners, mode, ACL, extended
--- attributes or letters
+-- A step gives the object at the path one part of what it has after all changes: bytes, owners, mode, ACL, extended
+-- attributes, or file attribute flags.
 pub record GivesSet (path : Path) (sets : List Operation) (t : Files) (step : Step) : Type 0 where
   pub new : ObjectState
   pub is : run sets (object_states_of (places t) path) ≡ Some new
   pub gives : GivesBytes path new.body.payload t step ⊎ GivesMetadata path new.metadata t step
 
--- an object has the owners and the special bits of metadata
+-- An object has the owners and the special bits of this metadata.
 abbrev pub HasBase : Metadata → Node → Type 0
 HasBase new node = (node.uid ≡ new.uid) × ((node.gid ≡ new.gid) × (node.special ≡ new.special))
 
--- an object has all of metadata
+-- An object has this metadata.
 pub record Wears (new : Metadata) (node : Node) : Type 0 where
   pub base : HasBase new node
   pub acl : node.acl ≡ new.acl
@@ -49,22 +49,22 @@ pub record Wears (new : Metadata) (node : Node) : Type 0 where
 
 -- ---- bytes
 
--- an object that holds some bytes, timestamps left as they are; where none are wanted it holds its own
+-- An object with these bytes, and the same timestamps. If none are given, it keeps its own bytes.
 abbrev pub holding : Option (List ℕ) → Object → Object
 holding None o = o
 holding (Some bytes) o = record o { payload = bytes }
 
--- an object after these bytes are written where it holds others
+-- An object after these bytes are written to it. If it has them already, it stays as it is.
 abbrev pub written : ℕ → Option (List ℕ) → Object → Object
 written now None o = o
 written now (Some bytes) o = if same_bytes bytes o.payload then o else with_content bytes now o
 
--- a step writes what is wanted
+-- A step writes the wanted bytes, if there are any.
 abbrev pub GivesWanted : Path → Option (List ℕ) → Files → Step → Type 0
 GivesWanted path None t step = ⊥
 GivesWanted path (Some bytes) t step = GivesBytes path bytes t step
 
--- what an object is to have when all is set: its metadata, and the bytes of a file where bytes are among it
+-- What an object has after all changes: its metadata, and its bytes if the changes set bytes and it is a file.
 pub record IsWanted (sets : List Operation) (o : Object) (wanted : Wanted) : Type 0 where
   pub new : ObjectState
   pub is : run sets (Some (object_state_of o)) ≡ Some new

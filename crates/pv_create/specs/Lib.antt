@@ -5,7 +5,5 @@ pub mod Actions
 pub mod Refusing
 pub mod Deciding
 pub mod Turning
-pub mod OnWay
-pub mod Ways
 pub mod Recovery
 pub mod OnTheWay

@@ -1,4 +1,4 @@
--- Crash safety of the create phase (tmpfiles.d(5)).
+-- Creating is crash-safe (tmpfiles.d(5)).
 use Rattle.std.specs.Prelude.{ℕ, List, [], ◌∷◌, ◌++◌, take}
 use Rattle.pv_lines.specs.declared.line.Line.{Line}
 use Rattle.pv_steps.specs.declared.step.Step.{Step}
@@ -6,30 +6,37 @@ use Rattle.pv_steps.specs.Runs.{after_all}
 use Rattle.pv_steps.specs.Same.{Same}
 use Rattle.pv_steps.specs.Trees.{Files, IsTree}
 use Rattle.pv_laws.specs.Copying.{StoppedRuns}
-use Rattle.pv_table.specs.Created.{created, IsQuiet}
+use Rattle.pv_table.specs.Created.{created, RefusesNoLine}
 use Rattle.pv_table.specs.Repeatable.{IsRepeatable}
 
--- a run of lines from a tree, stopped after any of its steps: if no line has a hazard against it, and neither a complete run
--- from the start nor one from there refuses a line at a turn, a complete run from there, at any moment, leaves the tree of one
--- whole run, timestamps and staging names aside
+-- A run of lines is stopped after any number n of its steps. Then a complete run over the tree at the stop leaves the
+-- same tree as one complete run from the start, if
+-- - no line has a hazard,
+-- - and neither a complete run from the start nor one from the stop refuses a line.
+-- The runs may begin at different times. `Same` leaves out timestamps and staging names.
 abbrev pub Recovers : List Line → ℕ → Files → List Step → Type 0
 Recovers lines now t steps = (n later : ℕ) → IsRepeatable lines →
-    IsQuiet lines now t →
-    IsQuiet lines later (after_all t (take n steps) now) →
+    RefusesNoLine lines now t →
+    RefusesNoLine lines later (after_all t (take n steps) now) →
     Same (created lines later (after_all t (take n steps) now)) (created lines now t)
 
--- the same where runs of the lines that were cut short, at some moments, had led to the tree: then a complete run leaves the
--- tree of one complete run from the first of these trees
+-- The same after several stops. Stopped runs at some times led from a tree s to the tree t, and the run from t is
+-- stopped after any number n of its steps. Then a complete run from this stop leaves the same tree as one complete
+-- run from s, if
+-- - no line has a hazard,
+-- - and neither a complete run from t nor one from this stop refuses a line.
+-- For the stopped runs before, `StoppedRuns` says the same. The runs may begin at different times.
 abbrev pub RecoversAgain : List Line → ℕ → Files → List Step → Type 0
 RecoversAgain lines now t steps = (s : Files) (moments : List ℕ) (n first later : ℕ) → IsTree s → IsRepeatable lines →
     StoppedRuns lines moments s t →
-    IsQuiet lines now t →
-    IsQuiet lines later (after_all t (take n steps) now) →
+    RefusesNoLine lines now t →
+    RefusesNoLine lines later (after_all t (take n steps) now) →
     Same (created lines later (after_all t (take n steps) now)) (created lines first s)
 
--- and the run itself, stopped after any of its steps, is one more of them
+-- If no line has a hazard, and a complete run refuses no line, then a run that is stopped after several stopped runs
+-- is one more of them.
 abbrev pub IsStoppedAgain : List Line → ℕ → Files → List Step → Type 0
 IsStoppedAgain lines now t steps = (s : Files) (moments : List ℕ) (n : ℕ) → IsRepeatable lines →
     StoppedRuns lines moments s t →
-    IsQuiet lines now t →
+    RefusesNoLine lines now t →
     StoppedRuns lines (moments ++ now ∷ []) s (after_all t (take n steps) now)

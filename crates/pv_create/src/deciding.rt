@@ -1,4 +1,4 @@
-//! The decision what a line does at a path that it names, by the object there.
+//! The decision what a line does at a path, by the object there.
 ghost use Rattle.std.specs.Prelude.{◌≡◌, ◌≢◌, ◌&&◌, not, ◌||◌, true, Some, IfOk};
 ghost use Rattle.std.specs.List.{list_all};
 ghost use Rattle.std.specs.Option.{option_map_or};
@@ -21,12 +21,12 @@ use pv_table::{Action, Adjustment, Copying, Making};
 use pv_walk::{NewFile, admits};
 use std::alloc::{AllocError, Global};
 
-/// What is done at a path.
+/// What a line does at a path.
 #[derive(Clone, Copy)]
 pub(crate) enum Turn {
-    /// Nothing.
+    /// Nothing is done.
     Nothing,
-    /// The object there is of this kind, and is left as it is.
+    /// The object there is of this kind, and it is left as it is.
     Left(Kind),
     /// What the line makes or copies is put there, in place of the old object.
     Put,
@@ -34,7 +34,7 @@ pub(crate) enum Turn {
     Become,
 }
 
-/// What a line that is not refused does at a path (tmpfiles.d(5)).
+/// Decides what a line does at a path at which it is not refused (tmpfiles.d(5)).
 pub(crate) fn decide<T: Tree>(
     alloc: Global,
     tree: &T,
@@ -55,7 +55,7 @@ pub(crate) fn decide<T: Tree>(
 
 // ---- lines that adjust
 
-/// What is done by a line that adjusts what is there: what is not wanted is left.
+/// Decides for a line that only adjusts: an object of a kind that the line does not want is left.
 fn adjustment_turn<T: Tree>(tree: &T, path: &TreePath, adjustment: &Adjustment) -> Turn
     ensures turn { meant (Adjust adjustment.now) (view_of (T.state tree.now)) result
         ≡ decide (Adjust adjustment.now) (view_of (T.state tree.now)) path.now }
@@ -70,7 +70,7 @@ fn adjustment_turn<T: Tree>(tree: &T, path: &TreePath, adjustment: &Adjustment) 
 
 // ---- lines that make something
 
-/// What is done by a line that makes something: an object stays where its kind, or else the renewal, lets it.
+/// Decides for a line that makes an object.
 fn making_turn<T: Tree>(tree: &T, path: &TreePath, making: &Making) -> Turn
     ensures turn { meant (Create making.now) (view_of (T.state tree.now)) result
         ≡ decide (Create making.now) (view_of (T.state tree.now)) path.now }
@@ -82,7 +82,7 @@ fn making_turn<T: Tree>(tree: &T, path: &TreePath, making: &Making) -> Turn
     }
 }
 
-/// What is done by a line that makes something, where something stands at the path.
+/// Decides for a line that makes an object at a path where an object is.
 fn making_over<T: Tree>(tree: &T, path: &TreePath, node: &Node, making: &Making) -> Turn
     requires node { Some node.now ≡ node_at (T.state tree.now) path.now }
     ensures { meant (Create making.now) (view_of (T.state tree.now)) result
@@ -95,7 +95,7 @@ fn making_over<T: Tree>(tree: &T, path: &TreePath, node: &Node, making: &Making)
     }
 }
 
-/// What is done if the object at the path stays.
+/// Decides what is done with an object that stays: it is adjusted if it has the wanted kind, and otherwise left.
 fn kept_turn(wanted: Kind, kind: Kind) -> Turn
     ensures { result ≡ kept_turn wanted kind }
 {
@@ -106,7 +106,7 @@ fn kept_turn(wanted: Kind, kind: Kind) -> Turn
     }
 }
 
-/// Whether the object at a path stays.
+/// Returns whether the object at a path stays.
 fn stays<T: Tree>(tree: &T, path: &TreePath, node: &Node, making: &Making) -> bool
     requires node { Some node.now ≡ node_at (T.state tree.now) path.now }
     ensures { (o : ObjectValue) → places (T.state tree.now) path.now ≡ Some o → result
@@ -123,7 +123,7 @@ fn stays<T: Tree>(tree: &T, path: &TreePath, node: &Node, making: &Making) -> bo
     }
 }
 
-/// Whether the object at a path has the target or the device numbers of a new object.
+/// Returns whether the object at a path has the link target and the device numbers of a new object.
 fn has_substance<T: Tree>(tree: &T, path: &TreePath, node: &Node, new: &NewFile) -> bool
     requires node { Some node.now ≡ node_at (T.state tree.now) path.now }
     ensures { (o : ObjectValue) → places (T.state tree.now) path.now ≡ Some o
@@ -135,7 +135,7 @@ fn has_substance<T: Tree>(tree: &T, path: &TreePath, node: &Node, new: &NewFile)
         && minor == node.minor
 }
 
-/// Whether a link at a path has a target. It is true of an object that is not a link.
+/// Returns whether a link at a path has this target. The answer is `true` for an object that is not a link.
 fn has_target<T: Tree>(tree: &T, path: &TreePath, kind: Kind, target: &[u8]) -> bool
     requires kind { Some kind ≡ kind_of (places (T.state tree.now) path.now) }
     ensures { (o : ObjectValue) → places (T.state tree.now) path.now ≡ Some o
@@ -149,7 +149,7 @@ fn has_target<T: Tree>(tree: &T, path: &TreePath, kind: Kind, target: &[u8]) -> 
 
 // ---- lines that copy
 
-/// What is done by a line that copies: a directory is copied over one that holds nothing anew.
+/// Decides for a line that copies: a copied directory replaces an empty one.
 fn copying_turn<T: Tree>(
     alloc: Global,
     tree: &T,
@@ -172,7 +172,7 @@ fn copying_turn<T: Tree>(
     }
 }
 
-/// What is done where something is copied and something stands at the path.
+/// Decides for a line that copies to a path where an object is.
 fn kept_copy(copying: &Copying, kind: Kind, there: Kind, empty: bool) -> Turn
     ensures { result ≡ kept_copy copying.now kind there empty }
 {
@@ -185,7 +185,7 @@ fn kept_copy(copying: &Copying, kind: Kind, there: Kind, empty: bool) -> Turn
     }
 }
 
-/// Whether the object at a path is replaced by a copied directory, which it is if it is an empty directory.
+/// Returns whether a copied directory replaces the object at a path, which it does if this is an empty directory.
 fn gives_way<T: Tree>(
     alloc: Global,
     tree: &T,
@@ -204,7 +204,7 @@ fn gives_way<T: Tree>(
     }
 }
 
-/// Whether a directory holds nothing, staging names aside.
+/// Returns whether a directory is empty, except for staging names.
 fn is_childless<T: Tree>(alloc: Global, tree: &T, path: &TreePath) -> Result<bool, AllocError>
     requires { IsKind Directory (T.state tree.now) path.now }
     ensures { IfOk result (λ b. b ≡ is_childless (view_of (T.state tree.now)) path.now) }
@@ -213,7 +213,7 @@ fn is_childless<T: Tree>(alloc: Global, tree: &T, path: &TreePath) -> Result<boo
     Ok(are_staging(names.as_slice()))
 }
 
-/// Whether all names are staging names.
+/// Returns whether all names are staging names.
 fn are_staging(names: &[Name]) -> bool
     ensures { result ≡ list_all is_staging names.now }
 {

@@ -1,4 +1,4 @@
-//! Whether an object has already what is set of it.
+//! Whether an object already has what a line sets.
 ghost use Rattle.std.specs.Prelude.{◌≡◌, IsTrue, true, Some, IfOk, unwrap_or, if◌then◌else◌};
 ghost use Rattle.pv_acl.specs.Applying.{acl_after};
 ghost use Rattle.pv_acl.specs.Parts.{base_of, special_of, with_mode};
@@ -17,8 +17,8 @@ use pv_steps::{Kind, Node, Tree, node_of, special_bits};
 use pv_walk::{Change, Operation, admits, is_same_base, masked_special, set_masked_base};
 use std::alloc::{AllocError, Global};
 
-/// Whether all that is set leaves the object at a path as it is. Bytes added, extended attributes and letters are not
-/// looked at: they count as a change.
+/// Returns `true` only if all that is set leaves the object at a path as it is. Appended bytes, extended attributes and
+/// file attribute flags are not compared: they count as a change.
 pub(crate) fn are_kept<T: Tree>(
     alloc: Global,
     tree: &T,
@@ -39,7 +39,7 @@ pub(crate) fn are_kept<T: Tree>(
     Ok(true)
 }
 
-/// Whether one operation leaves the object at a path as it is.
+/// Returns `true` only if one operation leaves the object at a path as it is.
 fn is_kept<T: Tree>(
     alloc: Global,
     tree: &T,
@@ -63,7 +63,7 @@ fn is_kept<T: Tree>(
     }
 }
 
-/// Whether a change leaves the object at a path as it is.
+/// Returns `true` only if a change leaves the object at a path as it is.
 fn keeps<T: Tree>(
     alloc: Global,
     tree: &T,
@@ -84,7 +84,7 @@ fn keeps<T: Tree>(
     }
 }
 
-/// Whether a file at a path holds bytes. It is true of an object that is not a file.
+/// Returns `true` only if a file at a path has these bytes, or if the object is not a file.
 fn holds<T: Tree>(tree: &T, path: &TreePath, kind: Kind, bytes: &Bytes) -> bool
     requires kind { Some kind ≡ kind_of (places (T.state tree.now) path.now) }
     ensures { IsTrue result → (o : ObjectValue) → places (T.state tree.now) path.now ≡ Some o
@@ -96,21 +96,21 @@ fn holds<T: Tree>(tree: &T, path: &TreePath, kind: Kind, bytes: &Bytes) -> bool
     }
 }
 
-/// Whether bytes are the same.
+/// Returns whether two byte strings are equal.
 fn is_same(a: &[u8], b: &[u8]) -> bool
     ensures { IsTrue result → a.now ≡ b.now }
 {
     a == b
 }
 
-/// Whether an object has an owner and an owning group, each if it is given.
+/// Returns whether an object has this owner and this owning group, each if it is given.
 fn has_owners(node: &Node, uid: Option<u32>, gid: Option<u32>) -> bool
     ensures { IsTrue result → (unwrap_or uid node.now.uid ≡ node.now.uid) × (unwrap_or gid node.now.gid ≡ node.now.gid) }
 {
     uid.unwrap_or(node.uid) == node.uid && gid.unwrap_or(node.gid) == node.gid
 }
 
-/// Whether an object has a mode, masked or not.
+/// Returns whether an object has this mode, masked or not.
 fn has_mode(alloc: Global, node: &Node, mode: u16, masked: bool) -> bool
     ensures special { IsTrue result → (if masked then masked_special node.now.kind mode else special_of mode) ≡ node.now.special }
     ensures base { IsTrue result → SameBase
@@ -125,7 +125,7 @@ fn has_mode(alloc: Global, node: &Node, mode: u16, masked: bool) -> bool
     special == node.special && is_same_base(&base, &node.acl.access)
 }
 
-/// The base entries of a part after a mode, masked or not.
+/// Returns the base entries of a part of an ACL after a mode is set, masked or not.
 fn base_after(alloc: Global, part: &Part, mode: u16, masked: bool) -> Part
     ensures { result ≡ (if masked then with_masked mode (base_of part.now) else with_mode mode (base_of part.now)) }
 {
@@ -138,7 +138,7 @@ fn base_after(alloc: Global, part: &Part, mode: u16, masked: bool) -> Part
     base
 }
 
-/// Whether the entries of a line leave the ACL of an object as it is.
+/// Returns whether the entries of a line leave the ACL of an object as it is.
 fn has_entries(alloc: Global, node: &Node, line: &AclLine, how: How) -> Result<bool, AllocError>
     ensures { IfOk result (λ kept. kept ≡ true → acl_after node.now.acl line.now how (is_directory node.now.kind) ≡ node.now.acl) }
 {

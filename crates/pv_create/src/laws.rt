@@ -1,4 +1,6 @@
-//! Laws of the intermediate states of creating. Each function does nothing; its contract is the law.
+//! Laws of the intermediate states of creating (tmpfiles.d(5)). Each function does nothing, and its contract is the
+//! law. The input paths are those that configuration lines are read from: the folders of tmpfiles.d(5) with all below
+//! them, /etc/passwd and /etc/group.
 ghost use Rattle.std.specs.Prelude.{◌≡◌, ◌⊎◌, ℕ, List, true, false};
 ghost use Rattle.std.specs.List.{AllByRecursion};
 ghost use Rattle.pv_walk.specs.Nodes.{object_states_of};
@@ -10,7 +12,7 @@ ghost use Rattle.pv_steps.specs.declared.step.Step.{Step as StepValue};
 ghost use Rattle.pv_steps.specs.Content.{content_of};
 ghost use Rattle.pv_steps.specs.Runs.{after_all};
 ghost use Rattle.pv_steps.specs.Trees.{Files, places, IsTree};
-ghost use Rattle.pv_create.specs.OnWay.{OnWay, turn_at, puts_parents};
+ghost use Rattle.pv_create.specs.OnTheWay.{OnWay, turn_at, puts_parents, lines_course};
 ghost use Rattle.pv_table.specs.ActionTable.{action_of};
 ghost use Rattle.pv_table.specs.Effects.{turn_after};
 ghost use Rattle.pv_table.specs.Saying.{found};
@@ -21,11 +23,11 @@ ghost use Rattle.pv_table.specs.declared.reason.Reason.TheVariants as reason;
 ghost use Rattle.pv_table.specs.Active.{in_create_order};
 ghost use Rattle.pv_layers.specs.Places.{is_input};
 ghost use Rattle.pv_table.specs.Repeatable.{HasReason};
-ghost use Rattle.pv_create.specs.Ways.{lines_course};
 
-/// Creating keeps what lines are read from, if no line may change that. In each intermediate state, whatever is
-/// refused, presence, kind and payload are as before at each path from which lines are read. Staging names are left
-/// out.
+/// States that creating changes no input path in any intermediate state, if no line has the hazard `input`.
+///
+/// Each input path is absent as before, or has the same kind and the same content. This holds whatever lines are
+/// refused. Input paths with a staging name in them are left out.
 pub fn a_run_leaves_what_lines_are_read_from()
     ensures { (lines : List LineValue) (now : ℕ) (t u : Files) (q : Path) → IsTree t → IsTree u
         → AllByRecursion IsLine lines → ((i : ℕ) → HasReason lines i reason.Input → ⊥)
@@ -33,7 +35,9 @@ pub fn a_run_leaves_what_lines_are_read_from()
         → content_of (places u q) ≡ content_of (places t q) }
 {}
 
-/// Staging names included, where steps of these lines lead to that moment.
+/// States that creating changes no input path, with a staging name in it or without, if no line has the hazard `input`.
+///
+/// A further premise, beside those of the law above, is that the intermediate state is reached by steps of the lines.
 pub fn the_steps_of_a_run_leave_what_lines_are_read_from()
     ensures { (lines : List LineValue) (now : ℕ) (t : Files) (steps : List StepValue) (q : Path) → IsTree t → IsTree (after_all t steps now)
         → AllByRecursion IsLine lines → ((i : ℕ) → HasReason lines i reason.Input → ⊥)
@@ -42,9 +46,11 @@ pub fn the_steps_of_a_run_leave_what_lines_are_read_from()
         → content_of (places (after_all t steps now) q) ≡ content_of (places t q) }
 {}
 
-/// A link or a file that another link or file replaces is never absent. Suppose that one Rename can put what a line
-/// makes or copies in place of the object at its path. Then in each intermediate state of the line the path has the
-/// object from before or the one that the line leaves. Timestamps are left out.
+/// States that a link or a file that another link or file replaces is never absent (rename(2)).
+///
+/// The premise is that a single Rename can replace the object at the path by what the line makes or copies. Then in
+/// each intermediate state of the line, the path has the object from before or the one that the line leaves. Timestamps
+/// are left out, and the path has no staging name.
 pub fn what_one_rename_can_replace_is_never_absent()
     ensures { (now : ℕ) (line : LineValue) (path : Path) (t u : Files) (subtree : Subtree) → IsTree t → has_staging path ≡ false
         → puts_parents (places t) (action_of line) ≡ true → turn_at now line path t ≡ Turn.Put subtree
@@ -53,9 +59,11 @@ pub fn what_one_rename_can_replace_is_never_absent()
         ⊎ (object_states_of (places u) path ≡ object_states_of (places (turn_after now line path t)) path) }
 {}
 
-/// A directory that a directory replaces is never absent. Suppose that a line makes or copies a directory to a path
-/// with a directory. Then in each intermediate state of the line the path has the directory from before or the one that
-/// the line leaves, whatever is in the old one. Timestamps are left out.
+/// States that a directory that another directory replaces is never absent, whatever is in the old one.
+///
+/// The premise is that a line makes or copies a directory to a path where a directory is. Then in each intermediate
+/// state of the line, the path has the directory from before or the one that the line leaves. Timestamps are left out,
+/// and the path has no staging name.
 pub fn a_directory_that_a_directory_replaces_is_never_absent()
     ensures { (now : ℕ) (line : LineValue) (path : Path) (t u : Files) (subtree : Subtree) → IsTree t → has_staging path ≡ false
         → puts_parents (places t) (action_of line) ≡ true → turn_at now line path t ≡ Turn.Put subtree

@@ -1,5 +1,5 @@
-//! The create phase (tmpfiles.d(5)). Each line of a table is carried out at its turn. A stopped run recovers when it is
-//! run again.
+//! The create phase of systemd-tmpfiles (tmpfiles.d(5), systemd-tmpfiles(8)). [`create_run`] carries out the lines of a
+//! table over a tree. If a run was stopped, a complete run of the same lines recovers.
 #![tactic(auto)]
 
 mod deciding;

@@ -5,7 +5,7 @@ ghost use Rattle.pv_lines.specs.Lines.{IsLine};
 ghost use Rattle.pv_table.specs.ActionTable.{action_of};
 ghost use Rattle.pv_table.specs.Effects.{turns};
 ghost use Rattle.pv_table.specs.Reaching.{path_in};
-ghost use Rattle.pv_create.specs.Ways.{line_course, lines_course};
+ghost use Rattle.pv_create.specs.OnTheWay.{line_course, lines_course};
 
 use crate::line_at::LineAt;
 use crate::turning::at_turn;
@@ -16,8 +16,8 @@ use pv_table::{Action, action_of, named_paths, path_of};
 use pv_text::Messages;
 use std::alloc::{AllocError, Global};
 
-/// Carries out a line at its path, or at each path that it names (tmpfiles.d(5)). Whether it was refused does not count
-/// where the line has `-`.
+/// Carries out a line at its path, or at each path that it names (tmpfiles.d(5)). The refusal of a line with `-` does
+/// not count.
 pub(crate) fn create_line<T: Tree>(
     alloc: Global,
     tree: &mut T,
@@ -32,7 +32,7 @@ pub(crate) fn create_line<T: Tree>(
     Ok(outcome_with_minus(line, carried))
 }
 
-/// Carries out a line at each of its paths; each refusal counts.
+/// Carries out a line at each of its paths. Each refusal counts.
 fn at_turns<T: Tree>(
     alloc: Global,
     tree: &mut T,
@@ -59,7 +59,7 @@ fn at_turns<T: Tree>(
     Ok(carried)
 }
 
-/// The paths at which a line is carried out: its own, or those that it names and at which something stands, in byte order.
+/// Returns the paths at which a line is carried out, in byte order: its own, or those present paths that it names.
 fn turns<T: Tree>(
     alloc: Global,
     tree: &T,
@@ -76,7 +76,7 @@ fn turns<T: Tree>(
     }
 }
 
-/// The path of a line that makes something or copies, alone.
+/// Returns the path of a line that makes or copies an object, as the only one.
 fn own_path(alloc: Global, line: &Line) -> Result<Vec<TreePath>, AllocError>
     ensures { IfOk result (λ paths. paths.items ≡ path_in line.now.path ∷ []) }
 {
@@ -85,7 +85,7 @@ fn own_path(alloc: Global, line: &Line) -> Result<Vec<TreePath>, AllocError>
     Ok(paths)
 }
 
-/// How a line ended, as far as it counts.
+/// Returns the outcome of a line, in which a refusal does not count if the line has `-`.
 fn outcome_with_minus(line: &Line, carried: Carried) -> Carried
     ensures { (refused : Bool) → carried ≡ carried_of refused
         → result ≡ carried_of (not line.now.minus && refused) }

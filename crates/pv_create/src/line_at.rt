@@ -13,15 +13,15 @@ use pv_table::{Action, Adjustment};
 pub(crate) struct LineAt<'a> {
     /// The line.
     pub line: &'a Line,
-    /// What it asks for.
+    /// What the line asks for.
     pub action: &'a Action,
-    /// The path: its own, or one that it names and at which something stands.
+    /// The path: the line's own, or a present one that the line names.
     pub path: &'a TreePath,
-    /// The moment at which it is carried out, in microseconds since 1970.
+    /// The time of the run, in microseconds since 1970-01-01 UTC.
     pub now: u64,
 }
 
-/// What a line copies.
+/// Returns the path that a line copies, or `None` if it copies nothing.
 pub(crate) fn copied(action: &Action) -> Option<&TreePath>
     ensures { option_copied result ≡ copied action.now }
 {
@@ -31,14 +31,14 @@ pub(crate) fn copied(action: &Action) -> Option<&TreePath>
     }
 }
 
-/// Whether a line makes something or copies.
+/// Returns whether a line makes or copies an object.
 pub(crate) fn makes(action: &Action) -> bool
     ensures { result ≡ makes action.now }
 {
     matches!(action, Action::Create(_) | Action::Copy(_))
 }
 
-/// What a line that only adjusts what is there sets.
+/// Returns what a line sets that only adjusts what is there, or `None` if it is another line.
 pub(crate) fn adjustment_of(action: &Action) -> Option<&Adjustment>
     ensures { option_copied result ≡ adjustment_of action.now }
 {

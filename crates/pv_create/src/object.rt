@@ -1,4 +1,4 @@
-//! Adjusting one object.
+//! Adjusting of one object.
 ghost use Rattle.std.specs.Prelude.{◌≡◌, ◌↔◌, ◌≤◌, IsTrue, IfSome, OnOk};
 ghost use Rattle.pv_path.specs.Names.{same_bytes};
 ghost use Rattle.pv_steps.specs.declared.node.Kind.TheVariants.{File};
@@ -19,9 +19,11 @@ use pv_steps::{Node, Step, Tree, TreeFault, node_of, try_step};
 use pv_walk::{Metadata, Operation, set_metadata};
 use std::alloc::Global;
 
-/// Adjusts the object at a path: its bytes, owner, mode, ACL, extended attributes and letters, in this order, each
-/// only if that changes something (tmpfiles.d(5)). The bytes of a file are read only if bytes are among what is
-/// set. Of an object that has all of it one look mostly tells.
+/// Adjusts the object at a path: its bytes, owners, mode, ACL, extended attributes and file attribute flags, in this
+/// order.
+///
+/// A part is set only if this changes something (tmpfiles.d(5)). The bytes of a file are read only if the line sets
+/// bytes.
 pub(crate) fn adjust<T: Tree>(
     alloc: Global,
     tree: &mut T,
@@ -36,7 +38,8 @@ pub(crate) fn adjust<T: Tree>(
     ensures ok { OnOk result (places (T.state tree.new)
         ≡ on_at path.now (become now sets.now) (places (T.state tree.old))) }
 
-    // What holds at each moment and of each step, whatever the answer; four steps at most, none where nothing changes.
+    // What holds at each moment and of each step, whatever the answer. There are at most four steps, and none if
+    // nothing changes.
     ensures acted { Acted T.Tree (Adjusting path.now sets.now (T.state tree.old))
         (GivesSet path.now sets.now (T.state tree.old))
         (change_work sets.now (places (T.state tree.old) path.now)) now tree.old tree.new result }
@@ -47,7 +50,7 @@ pub(crate) fn adjust<T: Tree>(
     give_all(alloc, tree, path, sets, now)
 }
 
-/// Gives the object at a path all that is set, each where it lacks it.
+/// Gives the object at a path all that is set, and skips what the object has already.
 fn give_all<T: Tree>(
     alloc: Global,
     tree: &mut T,
@@ -68,7 +71,7 @@ fn give_all<T: Tree>(
     give_metadata(tree, path, &new.metadata, now)
 }
 
-/// Gives the object at a path metadata; where it has all of it, one look at it tells.
+/// Gives the object at a path this metadata, and does nothing if the object has all of it.
 fn give_metadata<T: Tree>(
     tree: &mut T,
     path: &TreePath,
@@ -94,14 +97,14 @@ fn give_metadata<T: Tree>(
     set_metadata(tree, path, new, now)
 }
 
-/// Whether an object has the owners and the special bits of metadata.
+/// Returns whether an object has the owners and the set-ID and sticky bits of this metadata.
 fn has_base(node: &Node, new: &Metadata) -> bool
     ensures { IsTrue result ↔ HasBase new.now node.now }
 {
     node.uid == new.uid && node.gid == new.gid && node.special == new.special
 }
 
-/// Whether an object has all of metadata.
+/// Returns whether an object has all of this metadata.
 fn wears(node: &Node, new: &Metadata) -> bool
     ensures { IsTrue result → Wears new.now node.now }
 {
@@ -118,7 +121,7 @@ fn wears(node: &Node, new: &Metadata) -> bool
     node.letters.is_same(new.letters)
 }
 
-/// Gives the file at a path the wanted bytes, where it has others.
+/// Gives the file at a path the wanted bytes, if it has others.
 fn give_bytes<T: Tree>(
     tree: &mut T,
     path: &TreePath,
@@ -146,7 +149,7 @@ fn give_bytes<T: Tree>(
     try_step(tree, step, now)
 }
 
-/// Whether bytes are the same.
+/// Returns whether two byte strings are equal.
 fn is_same(a: &[u8], b: &[u8]) -> bool
     ensures { result ≡ same_bytes a.now b.now }
 {

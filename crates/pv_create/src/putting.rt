@@ -12,7 +12,7 @@ use pv_table::Action;
 use pv_walk::{copy_over, put_over};
 use std::alloc::Global;
 
-/// Puts what a line makes or copies at a path that is ready, in the place of all that stands at and below it.
+/// Puts what a line makes or copies at a path that is ready, in place of everything at and below it.
 pub(crate) fn put<T: Tree>(alloc: Global, tree: &mut T, at: &LineAt<'_>) -> Result<(), TreeFault>
     requires action { IsAction at.now.path.now at.now.action.now }
     requires ready { IsReady at.now.action.now at.now.path.now (T.state tree.old) }

@@ -1,4 +1,4 @@
-//! Adjusting all that a line reaches from a path.
+//! Adjusting of everything that a line reaches from a path.
 ghost use Rattle.std.specs.Prelude.{◌≡◌, IfOk, OnOk, IsSorted};
 ghost use Rattle.pv_path.specs.Paths.{path_cmp};
 ghost use Rattle.pv_steps.specs.Acting.{Acted};
@@ -15,8 +15,10 @@ use pv_table::Adjustment;
 use pv_walk::below;
 use std::alloc::{AllocError, Global};
 
-/// Adjusts the object at a path, and with a recursive line all below it, without staging names (tmpfiles.d(5), Z, A, T
-/// and H). The path comes first, then its children in byte order, each with all below it.
+/// Adjusts the object at a path, and for a recursive line everything below it, except staging names (tmpfiles.d(5), Z,
+/// A, T and H).
+///
+/// The path comes first, then its children in byte order, each with everything below it.
 pub(crate) fn adjust_reached<T: Tree>(
     alloc: Global,
     tree: &mut T,
@@ -27,7 +29,7 @@ pub(crate) fn adjust_reached<T: Tree>(
     requires present { IsPresent (T.state tree.old) path.now }
     requires sets { AreSets adjustment.now.sets }
     ensures ok { OnOk result (T.state tree.new ≡ adjust_at now adjustment.now path.now (T.state tree.old)) }
-    // Whatever the answer, the objects before the one at work have all that is set, and those after it are as they were.
+    // Whatever the answer, the objects before an unfinished one have all that is set, and those after it are unchanged.
     ensures acted { Acted T.Tree (AdjustingInOrder adjustment.now path.now (T.state tree.old))
         (GivesReached adjustment.now path.now (T.state tree.old))
         (adjust_work adjustment.now path.now (T.state tree.old)) now tree.old tree.new result }
@@ -39,7 +41,7 @@ pub(crate) fn adjust_reached<T: Tree>(
     }
 }
 
-/// Adjusts the object at each path that a line reaches from one, in their order.
+/// Adjusts the object at each path that a line reaches from one path, in their order.
 fn adjust_each<T: Tree>(
     alloc: Global,
     tree: &mut T,
@@ -61,8 +63,7 @@ fn adjust_each<T: Tree>(
     Ok(())
 }
 
-/// The paths that a line reaches from one where something stands, in byte order. What is below is mostly in order already,
-/// backwards in a wide directory: the path itself is put before it once it is.
+/// Returns the present paths that a line reaches from one path, in byte order.
 fn reached_paths<T: Tree>(
     alloc: Global,
     tree: &T,
@@ -80,7 +81,7 @@ fn reached_paths<T: Tree>(
     Ok(paths)
 }
 
-/// The paths below one that a line reaches: none, or all but staging names and what lies below these.
+/// Returns the paths below one path that a line reaches, in any order. They are none, or all without a staging name.
 fn reached_below<T: Tree>(
     alloc: Global,
     tree: &T,

@@ -1,4 +1,4 @@
-//! Whether a line is refused at a path.
+//! Whether a line is refused at a path, and at which component.
 ghost use Rattle.std.specs.Prelude.{◌≡◌, ◌<◌, ◌^◌, false, ◌++◌, ◌∷◌, [], length, option_map, unwrap_or, IfOk, IfSome, OnOk, OnErr};
 ghost use Rattle.pv_steps.specs.Trees.{places, IsTree};
 ghost use Rattle.pv_text.specs.GivenMessages.{message_text_at};
@@ -15,16 +15,18 @@ use pv_text::{Messages, Place};
 use pv_walk::{refusal_of, unsafe_component};
 use std::alloc::{AllocError, Global};
 
-/// A refused place, counted by the names that lead to it, and why.
+/// A component at which a path is not safe to walk, and why. Components are counted from 0 for the root.
 #[derive(Clone, Copy)]
 pub(crate) enum Refused<'a> {
-    /// Of the path that a line copies.
+    /// It is on the path that the line copies.
     Source(&'a TreePath, u32, Why),
-    /// Of the path at which it is carried out.
+    /// It is on the path at which the line is carried out.
     Named(&'a TreePath, u32, Why),
 }
 
-/// The place at which a line is refused: of what it copies, or else, if there is something to do, of its path.
+/// Returns why a line is refused at a path, or `None` if it is not refused.
+///
+/// What the line copies is judged first. The path itself is judged only if there is something to do.
 pub(crate) fn refusal<'a, T: Tree>(
     alloc: Global,
     tree: &T,
@@ -45,7 +47,7 @@ pub(crate) fn refusal<'a, T: Tree>(
     named_refusal(alloc, tree, at)
 }
 
-/// The first place above what a line copies that cannot be passed.
+/// Returns the first unsafe component above what a line copies, or `None`.
 fn source_refused<'a, T: Tree>(
     alloc: Global,
     tree: &T,
@@ -64,7 +66,7 @@ fn source_refused<'a, T: Tree>(
     }
 }
 
-/// Whether there is something to do: a copy of what is absent does nothing at all.
+/// Returns whether there is something to do. A copy of an absent path does nothing.
 pub(crate) fn has_something<T: Tree>(tree: &T, action: &Action) -> bool
     ensures something { result ≡ has_something (places (T.state tree.now)) action.now }
     ensures tree { result ≡ false → IsTree (T.state tree.now) }
@@ -75,7 +77,7 @@ pub(crate) fn has_something<T: Tree>(tree: &T, action: &Action) -> bool
     }
 }
 
-/// The place of the path itself at which a line is refused.
+/// Returns the component of the path itself at which a line is refused, or `None`.
 fn named_refusal<'a, T: Tree>(
     alloc: Global,
     tree: &T,
@@ -92,7 +94,8 @@ fn named_refusal<'a, T: Tree>(
     }
 }
 
-/// The owner that an absent last place counts as: the line's user, otherwise that of what it copies, otherwise root.
+/// Returns the owner that an absent last component counts as: the line's user, otherwise the owner of what is copied,
+/// otherwise root.
 fn owner_made<T: Tree>(tree: &T, at: &LineAt<'_>) -> u32
     requires { action_of at.now.line.now ≡ at.now.action.now }
     ensures { result ≡ owner_made at.entry.now.line.now (places (T.state tree.now)) }
@@ -103,7 +106,7 @@ fn owner_made<T: Tree>(tree: &T, at: &LineAt<'_>) -> u32
     }
 }
 
-/// The owner of what a line copies, root where it copies nothing.
+/// Returns the owner of what a line copies, or root if it copies nothing.
 fn source_owner<T: Tree>(tree: &T, action: &Action) -> u32
     ensures { result ≡ unwrap_or (source_owner (places (T.state tree.now)) action.now) 0 }
 {
@@ -113,7 +116,7 @@ fn source_owner<T: Tree>(tree: &T, action: &Action) -> u32
     }
 }
 
-/// The owner of the object at a path, or root if it is absent.
+/// Returns the owner of the object at a path, or root if it is absent.
 fn owner_at<T: Tree>(tree: &T, path: &TreePath) -> u32
     ensures { result ≡ unwrap_or (option_map (λ o. o.node.uid) (places (T.state tree.now) path.now)) 0 }
 {
@@ -123,7 +126,7 @@ fn owner_at<T: Tree>(tree: &T, path: &TreePath) -> u32
     }
 }
 
-/// Says of a line at which place it is refused.
+/// Adds the message that a line is refused, with the component and the cause.
 pub(crate) fn say_refusal(
     alloc: Global,
     place: &Place,

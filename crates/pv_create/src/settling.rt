@@ -21,7 +21,7 @@ use pv_table::say_left;
 use pv_text::{Messages, Place};
 use std::alloc::{AllocError, Global};
 
-/// Does what is to be done at a path that is ready, and says of an object that is left that it is.
+/// Does what is decided at a path that is ready. An object that is left as it is gives a message.
 pub(crate) fn settle<T: Tree>(
     alloc: Global,
     tree: &mut T,
@@ -34,7 +34,7 @@ pub(crate) fn settle<T: Tree>(
         Settles T.Tree at.entry.now.now at.entry.now.action.now at.entry.now.path.now turn tree.old tree.new result }
     ensures new_messages { let turn = decide at.entry.now.action.now (view_of (T.state tree.old)) at.entry.now.path.now in
         OnOk result (messages.new ≡ messages.old ++ map (message_text_at at.entry.now.line.now.place) (turn_texts at.entry.now.path.now turn)) }
-    // What is said is said before the first step.
+    // All messages are added before the first step.
     ensures told { let turn = decide at.entry.now.action.now (view_of (T.state tree.old)) at.entry.now.path.now in
         1 ≤ asked result (T.steps tree.old) (T.steps tree.new)
         → messages.new ≡ messages.old ++ map (message_text_at at.entry.now.line.now.place) (turn_texts at.entry.now.path.now turn) }
@@ -46,7 +46,7 @@ pub(crate) fn settle<T: Tree>(
     apply(alloc, tree, at, turn)
 }
 
-/// Says of an object that is left that it is.
+/// Adds a message if the object at the path is left as it is.
 fn say_turn(
     alloc: Global,
     place: &Place,
@@ -64,7 +64,7 @@ fn say_turn(
     }
 }
 
-/// Does what is to be done. What a line that only adjusts reaches is adjusted whatever stands at the path itself.
+/// Does what is decided. A line that only adjusts reaches below the path, whatever object is at the path itself.
 fn apply<T: Tree>(alloc: Global, tree: &mut T, at: &LineAt<'_>, turn: Turn) -> Result<(), TreeFault>
     requires action { IsAction at.now.path.now at.now.action.now }
     requires ready { IsReady at.now.action.now at.now.path.now (T.state tree.old) }

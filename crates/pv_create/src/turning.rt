@@ -6,7 +6,7 @@ ghost use Rattle.pv_steps.specs.Trees.{places};
 ghost use Rattle.pv_table.specs.Saying.{found};
 ghost use Rattle.pv_table.specs.Turns.{has_something, refused_at};
 ghost use Rattle.pv_create.specs.Actions.{IsLineAt, IsReady};
-ghost use Rattle.pv_create.specs.OnWay.{turn_course};
+ghost use Rattle.pv_create.specs.OnTheWay.{turn_course};
 ghost use Rattle.pv_create.specs.Turning.{Readying, IsReadyStep, ready_work};
 
 use crate::line_at::{LineAt, makes};
@@ -17,11 +17,14 @@ use pv_text::Messages;
 use pv_walk::prepare;
 use std::alloc::Global;
 
-/// Carries out a line at a path (tmpfiles.d(5)). A refused line says so and does nothing else; the parents of a copy's
-/// source are looked at before its own path. If there is nothing to copy, nothing is done. Otherwise a line that makes
-/// or copies an object removes what an earlier run has staged along the path, and makes absent parents. Then it puts
-/// the new object or the copy in place of the old object, adjusts the object, or leaves an object of another kind and
-/// says so.
+/// Carries out a line at a path (tmpfiles.d(5)).
+///
+/// - A line that is refused gives a message and does nothing else. The path that a copy reads is judged before its own.
+/// - If there is nothing to copy, nothing is done.
+/// - A line that makes or copies an object removes what earlier runs have staged along the path, and makes absent
+///   parents.
+/// - Then the new object or the copy is put in place of the old object. Otherwise the old object is adjusted or, if it
+///   is of another kind, left with a message.
 pub(crate) fn at_turn<T: Tree>(
     alloc: Global,
     tree: &mut T,
@@ -44,8 +47,8 @@ pub(crate) fn at_turn<T: Tree>(
     Ok(Carried::Whole)
 }
 
-/// Makes a path ready for a line that is not refused. A line that makes or copies an object removes what an earlier run
-/// has staged along the path, and makes absent parents.
+/// Makes a path ready for a line that is not refused. A line that makes or copies removes what earlier runs have staged
+/// along the path, and makes absent parents.
 fn get_ready<T: Tree>(alloc: Global, tree: &mut T, at: &LineAt<'_>) -> Result<(), TreeFault>
     requires at { IsLineAt at.now (T.state tree.old) }
     requires unrefused { refused_at at.now.line.now at.now.path.now (places (T.state tree.old)) ≡ None }

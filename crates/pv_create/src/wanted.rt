@@ -12,16 +12,16 @@ use pv_steps::{Kind, Tree, node_of};
 use pv_walk::{Change, Metadata, ObjectState, Operation, run_operations};
 use std::alloc::{AllocError, Global};
 
-/// What an object is to have.
+/// What an object is to have after it is adjusted.
 #[derive(Drop)]
 pub(crate) struct Wanted {
-    /// The bytes of a file, where bytes are among what is set.
+    /// The bytes of a file, if the line sets bytes.
     pub bytes: Option<Bytes>,
-    /// Its owner, mode, ACL, extended attributes and letters.
+    /// Owners, mode, ACL, extended attributes and file attribute flags.
     pub metadata: Metadata,
 }
 
-/// What the object at a path is to have. The bytes of a file are looked at only if bytes are among what is set.
+/// Returns what the object at a path is to have. The bytes of a file are read only if the line sets bytes.
 pub(crate) fn wanted_at<T: Tree>(
     alloc: Global,
     tree: &T,
@@ -49,7 +49,7 @@ pub(crate) fn wanted_at<T: Tree>(
     })
 }
 
-/// What is set makes of an object.
+/// Returns what the sets make of an object.
 fn after(alloc: Global, sets: &[Operation], old: ObjectState) -> Result<ObjectState, AllocError>
     requires { AreSets sets.now }
     ensures { IfOk result (λ new. run sets.now (Some old) ≡ Some new) }
@@ -60,14 +60,14 @@ fn after(alloc: Global, sets: &[Operation], old: ObjectState) -> Result<ObjectSt
     }
 }
 
-/// Whether bytes are among what is set.
+/// Returns whether bytes of a file are among what is set.
 fn writes(sets: &[Operation]) -> bool
     ensures { result ≡ writes sets.now }
 {
     sets.iter().any(is_writing)
 }
 
-/// Whether an operation is one on a file's bytes.
+/// Returns whether an operation sets or appends bytes of a file.
 fn is_writing(operation: &Operation) -> bool
     ensures { result ≡ is_adjusting is_writing operation.now }
 {

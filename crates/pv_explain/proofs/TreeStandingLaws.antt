@@ -19,7 +19,7 @@ use Rattle.pv_steps.specs.declared.node.Kind.TheVariants.{Directory}
 use Rattle.pv_steps.specs.declared.object.Object.{Object}
 use Rattle.pv_steps.specs.Trees.{Files, places, kind_of, IsTree}
 use Rattle.pv_steps.proofs.StepLaws.{among_keys}
-use Rattle.pv_table.specs.Created.{created, IsQuiet}
+use Rattle.pv_table.specs.Created.{created, RefusesNoLine}
 use Rattle.pv_table.specs.Pointwise.{tabulated}
 use Rattle.pv_table.specs.Repeatable.{IsRepeatable}
 use Rattle.pv_walk.specs.Removal.{is_one_of}
@@ -121,6 +121,6 @@ module _ (t : Files) where
     }
 
     -- if no line has a hazard, the object at a path after all lines is what a create run leaves there
-    pub left_there : (lines : List Line) → AllByRecursion IsLine lines → (now : ℕ) → IsRepeatable lines → IsQuiet lines now t → (path : Path) → has_staging path ≡ false
+    pub left_there : (lines : List Line) → AllByRecursion IsLine lines → (now : ℕ) → IsRepeatable lines → RefusesNoLine lines now t → (path : Path) → has_staging path ≡ false
         → last lines (standing t) path ≡ object_states_of (places (created lines now t)) path
     left_there lines are now repeatable quiet path plain = state_whole lines (all_safe lines are repeatable) now (standing t) t tree quiet (λ q unstaged. standing_is q) path plain

@@ -1,5 +1,5 @@
--- Which lines act on a path in the create phase, and the object there at the end (tmpfiles.d(5)): by what lines leave at
--- each path by itself, timestamps aside.
+-- Which lines change a path in creating, and what is there after all of them (tmpfiles.d(5)). This is said by what
+-- lines leave at each path by itself, timestamps aside.
 use Rattle.std.specs.Prelude.{ℕ, ◌+◌, List, length, Option, Some, None, option_map, if◌then◌else◌}
 use Rattle.std.specs.FinMap as fin
 use Rattle.std.specs.List.{filter_map, enumerate_from}
@@ -16,33 +16,33 @@ use Rattle.pv_explain.specs.declared.explained.Act.{Act}
 use Rattle.pv_explain.specs.declared.explained.Act.TheVariants.{Makes, Removes, Changes}
 use Rattle.pv_explain.specs.declared.explained.LineAct.{LineAct}
 
--- all that stands in a tree, without timestamps
+-- All objects of a tree, without timestamps.
 abbrev pub standing : Files → ObjectStates
 standing t = tabulated (fin.keys t) (object_states_of (places t))
 
--- what is done between the object at a path before and after: nothing if it is the same
+-- How the object at a path is changed: made, removed, changed, or not at all.
 abbrev pub act_between : Option ObjectState → Option ObjectState → Option Act
 act_between None None = None
 act_between None (Some b) = Some Makes
 act_between (Some a) None = Some Removes
 act_between (Some a) (Some b) = if same_object_state a b then None else Some Changes
 
--- what the line behind the first k of the create phase does at a path
+-- What the line after the first k lines does at a path, in the order of creating.
 abbrev pub act_after : List Line → ObjectStates → Path → ℕ → Option Act
 act_after lines s path k = act_between (fin.get (state lines k s) path) (fin.get (state lines (k + 1) s) path)
 
--- what a line does at a path, by the number of lines before it
+-- What a line does at a path, with the line's location. The line comes with the number of lines before it.
 abbrev pub line_act : List Line → ObjectStates → Path → ℕ × Line → Option LineAct
 line_act lines s path line = option_map (λ act. record { place = line.1.place; act = act }) (act_after lines s path line.0)
 
--- the acts at a path, in the order of the create phase
+-- What all lines do at a path, in the order of creating. Lines that do nothing there are left out.
 abbrev pub acts : List Line → ObjectStates → Path → List LineAct
 acts lines s path = filter_map (line_act lines s path) (enumerate_from 0 (in_create_order lines))
 
--- the object at a path after all lines
+-- The object at a path after all lines.
 abbrev pub last : List Line → ObjectStates → Path → Option ObjectState
 last lines s path = fin.get (state lines (length (in_create_order lines)) s) path
 
--- a node and its payload, without timestamps
+-- A node and its payload as an object without timestamps.
 abbrev pub object_state_in : Node × List ℕ → ObjectState
 object_state_in object = object_state_of (record { node = object.0; payload = object.1 })

@@ -11,7 +11,7 @@ use pv_path::Bytes;
 use pv_steps::{AttrList, LetterSet, Node, Stamps};
 use pv_walk::{Body, Metadata, ObjectState};
 
-/// What is done between two objects at a path, before and after a line, or nothing if they are the same.
+/// Returns what a line does, for the objects at a path before and after it, or `None` if they are the same.
 pub(crate) fn act_between(before: Option<&ObjectState>, after: Option<&ObjectState>) -> Option<Act>
     ensures { result ≡ act_between (option_copied before.entry) (option_copied after.entry) }
 {
@@ -23,7 +23,7 @@ pub(crate) fn act_between(before: Option<&ObjectState>, after: Option<&ObjectSta
     }
 }
 
-/// What is done where something stands before and after; nothing if both are the same.
+/// Returns what a line does if there is an object before and after it, or `None` if both are the same.
 fn changed(old: &ObjectState, new: &ObjectState) -> Option<Act>
     ensures { result ≡ act_between (Some old.now) (Some new.now) }
 {
@@ -34,21 +34,21 @@ fn changed(old: &ObjectState, new: &ObjectState) -> Option<Act>
     }
 }
 
-/// Whether two objects are the same.
+/// Returns whether two objects are the same.
 fn is_same(a: &ObjectState, b: &ObjectState) -> bool
     ensures { result ≡ same_object_state a.now b.now }
 {
     is_same_body(&a.body, &b.body) && is_same_metadata(&a.metadata, &b.metadata)
 }
 
-/// Whether two objects are and hold the same.
+/// Returns whether two objects have the same kind, payload and device numbers.
 fn is_same_body(a: &Body, b: &Body) -> bool
     ensures { result ≡ same_body a.now b.now }
 {
     a.kind == b.kind && a.payload.is_same(&b.payload) && a.major == b.major && a.minor == b.minor
 }
 
-/// Whether two objects have the same owners, special bits, ACL, extended attributes and letters.
+/// Returns whether two objects have the same owners, mode, ACL, extended attributes and file attribute flags.
 fn is_same_metadata(a: &Metadata, b: &Metadata) -> bool
     ensures { result ≡ same_metadata a.now b.now }
 {
@@ -58,28 +58,28 @@ fn is_same_metadata(a: &Metadata, b: &Metadata) -> bool
         && are_same_letters(a.letters, b.letters)
 }
 
-/// Whether two objects have the same owners and special bits.
+/// Returns whether two objects have the same owners and the same set-ID and sticky bits.
 fn has_same_owners(a: &Metadata, b: &Metadata) -> bool
     ensures { result ≡ (a.now.uid == b.now.uid && a.now.gid == b.now.gid && a.now.special == b.now.special) }
 {
     a.uid == b.uid && a.gid == b.gid && a.special == b.special
 }
 
-/// Whether extended attributes are the same.
+/// Returns whether extended attributes are the same.
 fn are_same_attrs(a: &AttrList, b: &AttrList) -> bool
     ensures { result ≡ pointwise same_attr a.now b.now }
 {
     a.is_same(b)
 }
 
-/// Whether letters are the same.
+/// Returns whether file attribute flags are the same.
 fn are_same_letters(a: LetterSet, b: LetterSet) -> bool
     ensures { result ≡ (a == b) }
 {
     a.is_same(b)
 }
 
-/// A node and its payload; its timestamps are 0.
+/// Returns a node and its payload. The timestamps of the node are 0.
 pub(crate) fn node_and_payload(object_state: ObjectState) -> (Node, Bytes)
     ensures { object_state_in result ≡ object_state }
 {

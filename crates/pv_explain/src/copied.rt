@@ -17,7 +17,7 @@ use pv_table::Copying;
 use pv_walk::{ObjectState, topped};
 use std::alloc::{AllocError, Global};
 
-/// What a line that copies leaves at a path, which comes by a rest after its own.
+/// Returns what a line that copies leaves at or below its path. `rest` has the names below the line's path.
 pub(crate) fn after_copying(
     alloc: Global,
     copying: &Copying,
@@ -45,8 +45,8 @@ pub(crate) fn after_copying(
     }
 }
 
-/// Whether a copy replaces an object. A copied directory replaces an empty directory. An object of another kind is
-/// replaced if the line renews it.
+/// Returns whether a copy replaces an object. A copied directory replaces an empty directory. An object of another kind
+/// is replaced if the line has `=`.
 fn is_replaced(copying: &Copying, childless: bool, source: Kind, old: Kind) -> bool
     ensures { result ≡ (if same_kind source old then is_directory source && childless else copying.now.renews) }
 {
@@ -57,7 +57,7 @@ fn is_replaced(copying: &Copying, childless: bool, source: Kind, old: Kind) -> b
     }
 }
 
-/// The copy of the object at a path with all below it, at a rest of names. Staging names are left out.
+/// Returns the copy of an object with everything below it, at a rest of names. Staging names are left out.
 fn copied(
     alloc: Global,
     copying: &Copying,
@@ -80,13 +80,14 @@ fn copied(
     }
 }
 
+/// Returns whether one of these names is a staging name.
 fn is_staged(names: &[Name]) -> bool
     ensures { result ≡ has_staging names.now }
 {
     names.iter().any(|name| is_staging(name.bytes()))
 }
 
-/// A copied object with the mode and the owners of a line; a link takes owners alone.
+/// Returns a copied object with the mode and the owners of a line. A link takes the owners alone.
 fn topped_by(copying: &Copying, source: &ObjectState) -> Result<ObjectState, AllocError>
     ensures { IfOk result (λ top. top ≡ topped_by copying.now source.now) }
 {

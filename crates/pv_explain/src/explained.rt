@@ -6,31 +6,32 @@ use pv_text::Place;
 /// What a line does at a path.
 #[derive(Clone, Copy, Debug, PartialEq, Eq)]
 pub enum Act {
-    /// Nothing stands there before it, and something after it.
+    /// The path is absent before the line, and there is an object after it.
     Makes,
-    /// Something stands there before it, and nothing after it.
+    /// There is an object before the line, and the path is absent after it.
     Removes,
-    /// Something else stands there after it, timestamps aside.
+    /// There is an object before and after the line, and the two differ in more than timestamps.
     Changes,
 }
 
-/// What the line at a place does at a path.
+/// What one line does at a path.
 #[derive(Drop)]
 pub struct LineAct {
-    /// Where the line stands.
+    /// The location of the line: its file and line number.
     pub place: Place,
-    /// What it does.
+    /// What the line does.
     pub act: Act,
 }
 
-/// Acts of lines, in the order of the create phase.
+/// A list of what lines do, in the order of the create phase. In contracts, a value is the list of these.
 pub type ActList = Sequence<LineAct>;
 
-/// What lines do at a path in the create phase, and which object is there at the end.
+/// The explanation of a path: what lines do there in the create phase, and the object there at the end.
 #[derive(Drop)]
 pub struct Explained {
-    /// Each line that acts on the path.
+    /// Each line that changes what is at the path, in the order of the create phase.
     pub acts: ActList,
-    /// The node at the end with its payload; its timestamps say nothing.
+    /// The node at the end with its payload, or `None` if the path is absent then. The timestamps of the node have no
+    /// meaning.
     pub node: Option<(Node, Bytes)>,
 }

@@ -5,7 +5,7 @@ ghost use Rattle.std.specs.Option.{option_copied};
 ghost use Rattle.pv_walk.specs.Nodes.{object_states_of};
 ghost use Rattle.pv_path.specs.Paths.{has_staging};
 ghost use Rattle.pv_steps.specs.Trees.{places};
-ghost use Rattle.pv_table.specs.Created.{created, IsQuiet};
+ghost use Rattle.pv_table.specs.Created.{created, RefusesNoLine};
 ghost use Rattle.pv_table.specs.Pointwise.{ObjectStates};
 ghost use Rattle.pv_table.specs.Repeatable.{IsRepeatable};
 ghost use Rattle.pv_explain.specs.declared.explained.Explained.{Explained as ExplainedValue};
@@ -28,23 +28,33 @@ use pv_table::{Table, create_order};
 use pv_walk::ObjectState;
 use std::alloc::{AllocError, Global};
 
-/// Explains a path: which lines of a table act on it in the create phase, in their order, and which object is there at
-/// the end (tmpfiles.d(5)). No step is done and no line is refused. Each path is judged by itself, without timestamps.
+/// Explains a path: which lines of a table change what is there in the create phase, and which object is there at the
+/// end (tmpfiles.d(5)).
+///
+/// `table` has the active lines. The lines in the answer are those for which the object at the path differs before and
+/// after them, in the order of the create phase. The tree is not changed. What lines leave is computed for each path
+/// without looking at whether a path is safe to walk, so that no line counts as refused. Timestamps are left out.
+///
+/// Suppose that no line has a hazard, that a complete create run refuses no line, and that no name of the path is a
+/// staging name. Then this run leaves exactly the object of the answer, except for timestamps.
+///
+/// For example, of the lines `d /run/app` and `z /run/app 0750`, the first one makes `/run/app` if it is absent. The
+/// second one changes it. The only error is `AllocError`.
 pub fn explain<T: Tree>(
     alloc: Global,
     tree: &T,
     table: &Table,
     path: &TreePath,
 ) -> Result<Explained, AllocError>
-    // Exactly the lines before and after which something else stands at the path.
+    // Exactly the lines for which the object at the path differs before and after them.
     ensures acts { IfOk result (λ explanation. explanation.acts ≡ acts table.now (standing (T.state tree.now)) path.now) }
 
-    // The object there after all lines, and nothing exactly if nothing does.
+    // The object there after all lines, and none exactly if the path is absent then.
     ensures node { IfOk result (λ explanation. option_map object_state_in explanation.node
         ≡ last table.now (standing (T.state tree.now)) path.now) }
 
-    // Where no line has a hazard this is what a create run leaves there, if it refuses no line.
-    ensures leaves { IfOk result (λ explanation. (now : ℕ) → IsRepeatable table.now → IsQuiet table.now now (T.state tree.now)
+    // If no line has a hazard, and a create run refuses no line, this is what the run leaves there.
+    ensures leaves { IfOk result (λ explanation. (now : ℕ) → IsRepeatable table.now → RefusesNoLine table.now now (T.state tree.now)
         → has_staging path.now ≡ false
         → option_map object_state_in explanation.node ≡ object_states_of (places (created table.now now (T.state tree.now))) path.now) }
 {
@@ -56,7 +66,7 @@ pub fn explain<T: Tree>(
     }
 }
 
-/// The explanation by the objects at the path and above it, or nothing if they are not enough.
+/// Explains a path by the objects at the path and above it. The answer is `None` if these are not enough.
 fn explain_along<T: Tree>(
     alloc: Global,
     tree: &T,
@@ -71,7 +81,7 @@ fn explain_along<T: Tree>(
     follow(alloc, table, path, &Scope::Along(places), start)
 }
 
-/// The explanation by the objects in a region in which each copy has its source with it.
+/// Explains a path by the objects in a region that has the source of each copy in it.
 fn explain_within<T: Tree>(
     alloc: Global,
     tree: &T,
@@ -89,8 +99,8 @@ fn explain_within<T: Tree>(
     }
 }
 
-/// Follows the lines of a table in the order of the create phase. The answer is nothing if the objects that are
-/// followed do not decide what is at the path.
+/// Follows the lines of a table in the order of the create phase. The answer is `None` if the objects that are followed
+/// do not decide what is at the path.
 fn follow(
     alloc: Global,
     table: &Table,
@@ -118,7 +128,7 @@ fn follow(
     Ok(Some(ended(acts, standing.copy_at(path)?)))
 }
 
-/// The explanation, by the acts and the object at the path at the end.
+/// Returns the explanation, for what lines do and the object at the end.
 fn ended(acts: ActList, last: Option<ObjectState>) -> Explained
     ensures acts { result.acts ≡ acts }
     ensures node { option_map object_state_in result.node ≡ last }
@@ -130,7 +140,7 @@ fn ended(acts: ActList, last: Option<ObjectState>) -> Explained
     Explained { acts, node }
 }
 
-/// Adds what a line does, if it does something, by the object at the path before and after it.
+/// Adds what a line does, if it changes the object at the path.
 fn note(
     acts: &mut ActList,
     line: &Line,

@@ -1,4 +1,4 @@
-//! What is followed of what lines leave.
+//! Which part of a tree is followed from line to line.
 ghost use Rattle.std.specs.Prelude.{◌≡◌, [], ◌∷◌, Bool, not, true, ◌&&◌, ◌||◌, Some, is_some, IfOk};
 ghost use Rattle.std.specs.FinMap as fin;
 ghost use Rattle.std.specs.List.{list_all};
@@ -19,16 +19,16 @@ use pv_path::{TreePath, is_prefix};
 use pv_table::{Action, action_of};
 use std::alloc::{AllocError, Global};
 
-/// Where it is followed what stands.
+/// Which part of a tree is followed.
 #[derive(Drop)]
 pub(crate) enum Scope {
-    /// At a path and those above it.
+    /// A path and those above it.
     Along(Vec<TreePath>),
-    /// In a region.
+    /// A region.
     Within(Region),
 }
 
-/// What stands after a line; nothing if what is followed does not tell it.
+/// Returns the objects after a line, or `None` if the objects that are followed do not decide this.
 pub(crate) fn after(
     alloc: Global,
     line: &Line,
@@ -47,7 +47,7 @@ pub(crate) fn after(
     }
 }
 
-/// What stands in a region after a line: one that changes nothing there is passed over.
+/// Returns the objects in a region after a line. A line that changes nothing there is passed over.
 fn after_within(
     alloc: Global,
     line: &Line,
@@ -66,8 +66,8 @@ fn after_within(
     after_line(alloc, line, &before)
 }
 
-/// Whether nothing is put in a region by what is made at a path: it does not lie there, and those places above it that do
-/// are there.
+/// Returns whether making an object at a path puts nothing in a region. This is so if the path is not in it, and those
+/// paths above it that are in it are present.
 fn is_outside(
     alloc: Global,
     own: &TreePath,
@@ -81,22 +81,22 @@ fn is_outside(
     Ok(!region.holds(own) && have_all(&places, region, before))
 }
 
-/// Whether those of some places that lie in a region are there.
+/// Returns whether those of some paths that are in a region are present.
 fn have_all(places: &[TreePath], region: &Region, before: &Standing) -> bool
     ensures { result ≡ list_all (λ q. not (holds region.now q) || is_some (fin.get before.now q)) places.now }
 {
     places.iter().all(|place| has(place, region, before))
 }
 
-/// Whether a place is there, or does not lie in a region.
+/// Returns whether a path is present, or not in a region.
 fn has(place: &TreePath, region: &Region, before: &Standing) -> bool
     ensures { result ≡ (not (holds region.now place.now) || is_some (fin.get before.now place.now)) }
 {
     !region.holds(place) || before.get(place).is_some()
 }
 
-/// The objects at a path and at its ancestors after a line. A line that changes nothing there is passed over. The
-/// answer is nothing for any other line that copies.
+/// Returns the objects at a path and above it after a line. A line that changes nothing there is passed over. The
+/// answer is `None` for any other line that copies.
 fn after_along(
     alloc: Global,
     line: &Line,
@@ -119,7 +119,7 @@ fn after_along(
     Ok(Some(after_line_at(alloc, line, &before, places)?))
 }
 
-/// Whether a line copies.
+/// Returns whether a line copies.
 fn copies(alloc: Global, line: &Line) -> Result<bool, AllocError>
     ensures { IfOk result (λ copies. copies ≡ is_some (copied (action_of line.now))) }
 {
@@ -127,8 +127,8 @@ fn copies(alloc: Global, line: &Line) -> Result<bool, AllocError>
     Ok(matches!(action, Action::Copy(_)))
 }
 
-/// Whether making an object at one path puts nothing at another path or above it. This is so if the first does not lie
-/// above the second, and the ancestors of both are present.
+/// Returns whether making an object at one path puts nothing at another path or above it. This is so if the first is
+/// not above the second, and the paths above both are present.
 fn is_aside(own: &TreePath, path: &TreePath, places: &[TreePath], before: &Standing) -> bool
     ensures { result ≡ (not (is_prefix own.now path.now)
         && list_all (λ q. not (is_prefix q own.now) || is_some (fin.get before.now q)) places.now) }
@@ -136,14 +136,14 @@ fn is_aside(own: &TreePath, path: &TreePath, places: &[TreePath], before: &Stand
     !is_prefix(own, path) && are_there(own, places, before)
 }
 
-/// Whether those of some places that lie above a path are there.
+/// Returns whether those of some paths that are above a path are present.
 fn are_there(own: &TreePath, places: &[TreePath], before: &Standing) -> bool
     ensures { result ≡ list_all (λ q. not (is_prefix q own.now) || is_some (fin.get before.now q)) places.now }
 {
     places.iter().all(|place| is_there(own, place, before))
 }
 
-/// Whether a place is there, or does not lie above a path.
+/// Returns whether a path is present, or not above another one.
 fn is_there(own: &TreePath, place: &TreePath, before: &Standing) -> bool
     ensures { result ≡ (not (is_prefix place.now own.now) || is_some (fin.get before.now place.now)) }
 {

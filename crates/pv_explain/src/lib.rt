@@ -1,5 +1,6 @@
-//! What lines leave at each path by itself, timestamps aside (tmpfiles.d(5)), and which lines act on a path in the create
-//! phase, in their order.
+//! The explanation of one path (tmpfiles.d(5), `--explain`). [`explain`] finds the lines that change what is at the
+//! path in the create phase, and the object there at the end. It changes nothing. What lines leave is computed for each
+//! path without looking at whether a path is safe to walk, so that no line counts as refused. Timestamps are left out.
 #![tactic(auto)]
 
 mod comparing;

@@ -9,7 +9,7 @@ use pv_lines::Line;
 use pv_path::TreePath;
 use pv_table::Action;
 
-/// What it takes to say what a line leaves at a path.
+/// What is needed to say what a line leaves at a path.
 #[derive(Clone, Copy)]
 pub(crate) struct LineTurn<'a> {
     /// The line.
@@ -18,14 +18,14 @@ pub(crate) struct LineTurn<'a> {
     pub action: &'a Action,
     /// Its path.
     pub path: &'a TreePath,
-    /// What stands before it.
+    /// The objects before it.
     pub before: &'a Standing,
-    /// Whether nothing stands directly below its path then, staging names aside.
+    /// Whether no object is directly below its path then, except for staging names.
     pub childless: bool,
 }
 
 impl<'a> LineTurn<'a> {
-    /// The turn of a line.
+    /// Returns the turn of a line.
     pub(crate) fn of(
         line: &'a Line,
         action: &'a Action,

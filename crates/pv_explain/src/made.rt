@@ -13,7 +13,7 @@ use pv_table::{Making, OperationList};
 use pv_walk::{Body, NewFile, NewKind, ObjectState, Test, new_object_state, run_operations, stays};
 use std::alloc::{AllocError, Global};
 
-/// The directory that a line puts where nothing stands above its path.
+/// Returns the directory that a line makes for an absent parent: it belongs to root and has the mode 0755.
 pub(crate) fn parent_object_state(alloc: Global) -> Result<ObjectState, AllocError>
     ensures { IfOk result (λ object_state. object_state ≡ parent_object_state) }
 {
@@ -26,7 +26,7 @@ pub(crate) fn parent_object_state(alloc: Global) -> Result<ObjectState, AllocErr
     new_object_state(alloc, &parent)
 }
 
-/// What a line that makes an object leaves at a path that comes by a rest after its own.
+/// Returns what a line that makes an object leaves at or below its path. `rest` has the names below the line's path.
 pub(crate) fn after_making(
     alloc: Global,
     making: &Making,
@@ -43,7 +43,7 @@ pub(crate) fn after_making(
     }
 }
 
-/// What a line that makes an object leaves at a path, where something stands at the line's path.
+/// Returns what a line that makes an object leaves at or below its path, where there is an object before it.
 fn over(
     alloc: Global,
     making: &Making,
@@ -64,7 +64,7 @@ fn over(
     }
 }
 
-/// One object with nothing below it.
+/// Returns one object at the path itself, and nothing below it.
 fn single(object_state: ObjectState, rest: &[Name]) -> Option<ObjectState>
     ensures { result ≡ single object_state rest.now }
 {
@@ -74,7 +74,7 @@ fn single(object_state: ObjectState, rest: &[Name]) -> Option<ObjectState>
     }
 }
 
-/// The object at the line's path is adjusted; what stands below it stays.
+/// Returns the object at the line's path with what the line sets, and what is below it unchanged.
 pub(crate) fn adjusted(
     alloc: Global,
     sets: &OperationList,
@@ -89,7 +89,7 @@ pub(crate) fn adjusted(
     }
 }
 
-/// Whether an object stays where a new one is wanted.
+/// Returns whether the old object stays where a line would make a new one.
 fn is_kept(renew: Option<Test>, new: &Body, old: &Body) -> bool
     ensures { result ≡ option_map_or (λ test. stays test new.now old.now) renew true }
 {

@@ -1,4 +1,4 @@
-//! What a line leaves at a path, by the objects at all paths.
+//! What a line leaves at one path, from the objects at all paths.
 ghost use Rattle.std.specs.Prelude.{◌≡◌, ◌&&◌, not, Some, IfOk, is_some, unwrap_or, if◌then◌else◌};
 ghost use Rattle.std.specs.FinMap as fin;
 ghost use Rattle.pv_walk.specs.Operations.{run};
@@ -19,7 +19,7 @@ use pv_table::{Action, Adjustment, Copying, Making, names, names_first};
 use pv_walk::{ObjectState, run_operations};
 use std::alloc::{AllocError, Global};
 
-/// What a line leaves at a path.
+/// Returns what a line leaves at a path.
 pub(crate) fn point(
     alloc: Global,
     turn: &LineTurn<'_>,
@@ -36,14 +36,14 @@ pub(crate) fn point(
     }
 }
 
-/// Whether a path lies above another.
+/// Returns whether a path is above another one.
 fn is_above(other: &TreePath, path: &TreePath) -> bool
     ensures { result ≡ (is_prefix other.now path.now && not (same_path other.now path.now)) }
 {
     is_prefix(other, path) && other != path
 }
 
-/// What stands above the path of a line that makes something: what was there, or a parent.
+/// Returns what is above the path of a line that makes an object: what was there, or a new parent directory.
 fn above(
     alloc: Global,
     before: &Standing,
@@ -57,7 +57,7 @@ fn above(
     }
 }
 
-/// What a line that makes an object leaves at a path.
+/// Returns what a line that makes an object leaves at a path.
 fn made(
     alloc: Global,
     making: &Making,
@@ -77,7 +77,7 @@ fn made(
     }
 }
 
-/// What a line that copies leaves at a path.
+/// Returns what a line that copies leaves at a path.
 fn copied(
     alloc: Global,
     copying: &Copying,
@@ -102,7 +102,7 @@ fn copied(
     }
 }
 
-/// What a line that adjusts what is there leaves at a path.
+/// Returns what a line that adjusts leaves at a path.
 fn touched(
     alloc: Global,
     line: &Line,
@@ -122,14 +122,14 @@ fn touched(
     }
 }
 
-/// Whether a line touches a path: it names it, or, going down, what it lies below.
+/// Returns whether a line adjusts a path: it names the path or, if it is recursive, a path above it.
 fn adjusts_path(line: &Line, adjustment: &Adjustment, path: &TreePath) -> bool
     ensures { result ≡ adjusts_path line.now adjustment.now path.now }
 {
     names(line, path) || (adjustment.deep && names_above(line, path) && !has_staging(path))
 }
 
-/// Whether a line names what a path lies below.
+/// Returns whether a line names a path above this one.
 fn names_above(line: &Line, path: &TreePath) -> bool
     ensures { result ≡ names_above line.now path.now }
 {

@@ -1,4 +1,4 @@
-//! The part of a tree in which each copy has its source with it.
+//! A part of a tree. It has, for each copy that comes into the part, the source of the copy too.
 ghost use Rattle.std.specs.Prelude.{◌≡◌, ◌++◌, ◌∷◌, [], true, map, filter, flat_map, is_some, IfOk, OnOk};
 ghost use Rattle.std.specs.FinMap as fin;
 ghost use Rattle.std.specs.List.{cons_option, find};
@@ -20,23 +20,23 @@ use std::alloc::{AllocError, Global};
 /// What a line copies, and where to.
 #[derive(Drop)]
 pub(crate) struct Copied {
-    /// Where the copy goes.
+    /// The path to which it is copied.
     pub(crate) to: TreePath,
-    /// What is copied.
+    /// The path that is copied.
     pub(crate) from: TreePath,
 }
 
 /// A part of a tree.
 #[derive(Drop)]
 pub(crate) struct Region {
-    /// All at and below these belongs to it, and all above them.
+    /// Everything at, below and above these paths is in the region.
     pub(crate) tops: Vec<TreePath>,
-    /// These belong to it, and all above them.
+    /// Everything at and above these paths is in the region.
     pub(crate) ends: Vec<TreePath>,
 }
 
 impl Region {
-    /// Whether a path belongs to the region.
+    /// Returns whether a path is in the region.
     pub(crate) fn holds(&self, path: &TreePath) -> bool
         ensures { result ≡ holds self.now path.now }
     {
@@ -44,22 +44,22 @@ impl Region {
     }
 }
 
-/// Whether a path lies at or below one of some paths.
+/// Returns whether a path is at or below one of some paths.
 fn covers(tops: &[TreePath], path: &TreePath) -> bool
     ensures { result ≡ covers tops.now path.now }
 {
     tops.iter().any(|top| is_prefix(top, path))
 }
 
-/// Whether a path lies at or above one of some paths.
+/// Returns whether a path is at or above one of some paths.
 fn leads(ends: &[TreePath], path: &TreePath) -> bool
     ensures { result ≡ leads ends.now path.now }
 {
     ends.iter().any(|end| is_prefix(path, end))
 }
 
-/// A region that leads to a path and to all that lines copy, and has each copy that comes into it whole. Only the ends
-/// of such copies are added to it.
+/// Returns a region that has a path and everything that lines copy, and all of each copy that comes into it. Only the
+/// ends of such copies are added to it.
 pub(crate) fn closed_region(
     alloc: Global,
     table: &Table,
@@ -79,7 +79,7 @@ pub(crate) fn closed_region(
     Ok(region)
 }
 
-/// What the lines of a table copy.
+/// Returns what the lines of a table copy.
 fn copies_of(alloc: Global, table: &Table) -> Result<Vec<Copied>, AllocError>
     ensures { IfOk result (λ copies. copies.items ≡ copies_of table.now) }
 {
@@ -104,7 +104,7 @@ fn add_copy(alloc: Global, line: &Line, copies: &mut Vec<Copied>) -> Result<(), 
     Ok(())
 }
 
-/// A path and all that is copied.
+/// Returns a path and all paths that are copied.
 fn ends_of(alloc: Global, path: &TreePath, copies: &[Copied]) -> Result<Vec<TreePath>, AllocError>
     ensures { IfOk result (λ ends. ends.items ≡ path.now ∷ map (λ copy. copy.from) copies.now) }
 {
@@ -116,21 +116,21 @@ fn ends_of(alloc: Global, path: &TreePath, copies: &[Copied]) -> Result<Vec<Tree
     Ok(ends)
 }
 
-/// The first copy that comes into a region that does not have all of it.
+/// Returns the first copy that comes into a region that does not have all of it.
 fn first_open<'a>(copies: &'a [Copied], region: &Region) -> Option<&'a Copied>
     ensures { option_copied result ≡ find (is_open region.now) copies.now }
 {
     copies.iter().find(|copy| is_open(region, copy))
 }
 
-/// Whether a copy comes into a region that does not have all of it.
+/// Returns whether a copy comes into a region that does not have all of it.
 fn is_open(region: &Region, copy: &Copied) -> bool
     ensures { result ≡ is_open region.now copy.now }
 {
     region.holds(&copy.to) && !(covers(&region.tops, &copy.to) && covers(&region.tops, &copy.from))
 }
 
-/// Paths of a region: each at which something stands is among them.
+/// Returns paths of a region, among which are all that have an object.
 pub(crate) fn paths_in<T: Tree>(
     alloc: Global,
     tree: &T,
@@ -146,7 +146,7 @@ pub(crate) fn paths_in<T: Tree>(
     Ok(paths)
 }
 
-/// Adds the objects at some paths, with all below them.
+/// Adds the objects at some paths, with everything below them.
 fn add_below<T: Tree>(
     alloc: Global,
     tree: &T,

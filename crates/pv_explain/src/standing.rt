@@ -1,4 +1,4 @@
-//! A map from paths to objects, without timestamps.
+//! A map from paths to objects without timestamps.
 ghost use Rattle.std.specs.Prelude.{◌≡◌, not, IfOk, OnOk};
 ghost use Rattle.std.specs.BTreeMap.{IsOrdered, keys};
 ghost use Rattle.std.specs.FinMap as fin;
@@ -14,7 +14,7 @@ use std::alloc::{AllocError, Global};
 use std::collections::BTreeMap;
 use std::marker::Model;
 
-/// A map from paths to objects, without timestamps. Clauses see the finite map.
+/// A map from paths to objects without timestamps (`ObjectState` of pv_walk). In contracts, a value is the finite map.
 #[derive(Drop)]
 pub struct Standing {
     objects: BTreeMap<TreePath, ObjectState>,
@@ -34,7 +34,7 @@ impl Model for Standing {
 }
 
 impl Standing {
-    /// Nothing stands anywhere. It takes no memory.
+    /// Makes an empty map. The call does not allocate.
     pub fn new(alloc: Global) -> Standing
         ensures { result ≡ fin.empty }
     {
@@ -43,7 +43,7 @@ impl Standing {
         }
     }
 
-    /// Puts an object at a path, in place of the old one.
+    /// Puts an object at a path. It replaces the old object, if there is one. The only error is `AllocError`.
     pub fn put(&mut self, path: TreePath, object_state: ObjectState) -> Result<(), AllocError>
         ensures { OnOk result (self.new ≡ fin.insert self.old path object_state) }
     {
@@ -51,14 +51,14 @@ impl Standing {
         Ok(())
     }
 
-    /// The object at a path. It takes no memory.
+    /// Returns the object at a path, or `None` if there is none. The call does not allocate.
     pub fn get(&self, path: &TreePath) -> Option<&ObjectState>
         ensures { option_copied result ≡ fin.get self.now path.now }
     {
         self.objects.get(path)
     }
 
-    /// A copy of the object at a path.
+    /// Returns a copy of the object at a path, or `None` if there is none. The only error is `AllocError`.
     pub fn copy_at(&self, path: &TreePath) -> Result<Option<ObjectState>, AllocError>
         ensures { IfOk result (λ object_state. object_state ≡ fin.get self.now path.now) }
     {
@@ -68,7 +68,7 @@ impl Standing {
         }
     }
 
-    /// The paths at which something stands, in their order.
+    /// Returns the paths that have an object, in their order. The only error is `AllocError`.
     pub fn paths(&self, alloc: Global) -> Result<Vec<TreePath>, AllocError>
         ensures { IfOk result (λ paths. paths.items ≡ fin.keys self.now) }
     {
@@ -76,7 +76,7 @@ impl Standing {
         Ok(paths)
     }
 
-    /// Whether nothing stands directly below a path, staging names aside.
+    /// Returns whether no object is directly below a path, except for staging names.
     pub(crate) fn is_childless(&self, path: &TreePath) -> bool
         ensures { result ≡ is_childless (view self.now) path.now }
     {
@@ -84,7 +84,7 @@ impl Standing {
     }
 }
 
-/// The paths of a map, in their order.
+/// Returns the paths of a map, in their order.
 fn paths_of(
     alloc: Global,
     objects: &BTreeMap<TreePath, ObjectState>,
@@ -99,7 +99,7 @@ fn paths_of(
     Ok(paths)
 }
 
-/// Whether no path of a map is that of an object directly below a path, staging names aside.
+/// Returns whether a map has no path directly below a path, except for staging names.
 fn none_below(objects: &BTreeMap<TreePath, ObjectState>, path: &TreePath) -> bool
     ensures all { result ≡ list_all (λ q. not (is_visible_child path.now q)) (keys objects.now) }
     ensures ordered { IsOrdered path_cmp objects.now }
@@ -107,7 +107,7 @@ fn none_below(objects: &BTreeMap<TreePath, ObjectState>, path: &TreePath) -> boo
     objects.keys().all(|other| !is_visible_child(path, other))
 }
 
-/// Whether a path is that of an object directly below another, staging names aside.
+/// Returns whether a path is directly below another one and has no staging name there.
 fn is_visible_child(path: &TreePath, other: &TreePath) -> bool
     ensures { result ≡ is_visible_child path.now other.now }
 {

@@ -18,8 +18,12 @@ use pv_path::{TreePath, is_prefix, rebase};
 use pv_table::{Action, Table, action_of, create_order, path_of};
 use std::alloc::{AllocError, Global};
 
-/// What the first lines of a table leave at each path, in the order of the create phase (tmpfiles.d(5)). No line is
-/// refused, and each path is judged by itself.
+/// Returns what the first `count` lines of a table leave at each path, in the order of the create phase
+/// (tmpfiles.d(5)).
+///
+/// `start` has the objects before the first line. If the table has fewer lines, all of them count. The objects are
+/// computed without looking at whether a path is safe to walk, so that no line counts as refused. The only error is
+/// `AllocError`.
 pub fn state_after(
     alloc: Global,
     table: &Table,
@@ -38,7 +42,7 @@ pub fn state_after(
     Ok(standing)
 }
 
-/// The first of some places.
+/// Returns the first `count` of some indices, or all if there are fewer.
 fn first(places: &[usize], count: usize) -> &[usize]
     ensures { result.now ≡ take count places.now }
 {
@@ -49,7 +53,10 @@ fn first(places: &[usize], count: usize) -> &[usize]
     }
 }
 
-/// What a line leaves at each path.
+/// Returns what one line leaves at each path, from the objects before it.
+///
+/// The objects are computed without looking at whether a path is safe to walk, so that no line counts as refused. The
+/// only error is `AllocError`.
 pub fn after_line(alloc: Global, line: &Line, before: &Standing) -> Result<Standing, AllocError>
     ensures { IfOk result (λ after. after ≡ pointwise_after before.now line.now) }
 {
@@ -60,7 +67,9 @@ pub fn after_line(alloc: Global, line: &Line, before: &Standing) -> Result<Stand
     tabulated(alloc, &turn, &paths)
 }
 
-/// What a line leaves at some paths, by the objects at all paths that it looks at.
+/// Returns what one line leaves at these paths. The answer has no other paths.
+///
+/// `before` has the objects before the line. The only error is `AllocError`.
 pub fn after_line_at(
     alloc: Global,
     line: &Line,
@@ -75,7 +84,7 @@ pub fn after_line_at(
     tabulated(alloc, &turn, paths)
 }
 
-/// What a line leaves at some paths.
+/// Returns what a line leaves at these paths.
 fn tabulated(alloc: Global, turn: &LineTurn<'_>, paths: &[TreePath]) -> Result<Standing, AllocError>
     requires { IsLineTurn turn.now }
     ensures { IfOk result (λ after. after ≡ tabulated paths.now (point turn.now.line.now turn.now.before.now)) }
@@ -89,7 +98,7 @@ fn tabulated(alloc: Global, turn: &LineTurn<'_>, paths: &[TreePath]) -> Result<S
     Ok(after)
 }
 
-/// The paths at which a line may put something, and those at which something stands.
+/// Returns the paths at which a line may put an object, and those at which an object is.
 fn touched_paths(
     alloc: Global,
     action: &Action,
@@ -114,7 +123,9 @@ fn touched_paths(
     Ok(paths)
 }
 
-/// The root, a path, and the paths between them.
+/// Returns the root, the path, and then the paths between them, from the shortest on.
+///
+/// For example, for `/a/b/c` they are `/`, `/a/b/c`, `/a` and `/a/b`. The only error is `AllocError`.
 pub fn places_along(alloc: Global, path: &TreePath) -> Result<Vec<TreePath>, AllocError>
     ensures { IfOk result (λ places. places.items ≡ [] ∷ path.now ∷ parents_of path.now) }
 {
@@ -124,7 +135,7 @@ pub fn places_along(alloc: Global, path: &TreePath) -> Result<Vec<TreePath>, All
     Ok(places)
 }
 
-/// Adds a path and those above it but the root, from the root on.
+/// Adds a path and then those above it, except the root, from the shortest on.
 fn add_line(alloc: Global, paths: &mut Vec<TreePath>, path: &TreePath) -> Result<(), AllocError>
     ensures { OnOk result (paths.new.items ≡ paths.old.items ++ path.now ∷ parents_of path.now) }
 {
@@ -138,7 +149,7 @@ fn add_line(alloc: Global, paths: &mut Vec<TreePath>, path: &TreePath) -> Result
     Ok(())
 }
 
-/// Adds, for each of some paths at or below a source, the path to which it is copied.
+/// Adds the path to which each of some paths at or below a source is copied.
 fn add_copies(
     alloc: Global,
     paths: &mut Vec<TreePath>,

@@ -1,4 +1,4 @@
-//! What stands in a tree, without timestamps.
+//! The objects of a tree, without timestamps.
 ghost use Rattle.std.specs.Prelude.{◌≡◌, IfOk};
 ghost use Rattle.pv_walk.specs.Nodes.{object_states_of};
 ghost use Rattle.pv_steps.specs.Trees.{places};
@@ -10,7 +10,7 @@ use pv_steps::Tree;
 use pv_walk::object_state_at;
 use std::alloc::{AllocError, Global};
 
-/// The objects at some paths of a tree.
+/// Returns the objects at some paths of a tree, without timestamps.
 pub(crate) fn standing_at<T: Tree>(
     alloc: Global,
     tree: &T,

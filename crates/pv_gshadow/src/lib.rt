@@ -1,5 +1,5 @@
-//! The file of group passwords /etc/gshadow (gshadow(5)): its entries as slices of the file, and files with one
-//! more group or member.
+//! The file of group passwords, /etc/gshadow (gshadow(5)). [`gshadow_view`] looks up an entry without copying it.
+//! [`add_group`] and [`add_gshadow_member`] give the text of the file with one more group or member.
 #![tactic(auto)]
 
 mod edit;

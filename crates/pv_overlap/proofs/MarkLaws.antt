@@ -17,7 +17,7 @@ use Rattle.pv_lines.specs.Lines.{IsLine}
 use Rattle.pv_glob.specs.declared.meeting.Reach.{Reach}
 use Rattle.pv_glob.specs.Words.{Finds, IsFirst, shared_cmp}
 use Rattle.pv_overlap.specs.declared.pair.Pair.{Pair}
-use Rattle.pv_overlap.specs.Answers.{ComesBefore, IsAnswered, IsTold}
+use Rattle.pv_overlap.specs.Answers.{ComesBefore, IsAnswered, IsReported}
 use Rattle.pv_table.specs.declared.reason.Reason.{Reason}
 use Rattle.pv_table.specs.declared.reason.Reason.TheVariants as reason
 use Rattle.pv_table.specs.ActionTable.{action_of}
@@ -36,9 +36,6 @@ abbrev Never : Type 0
 Never = ◌≡◌ {A = Bool} false true
 
 -- ---- what lines copy
-
-copied_none : (o : Option Path) (source : Path) → o ≡ None → o ≡ Some source → ⊥
-copied_none o source e f = let no : None ≡ Some source = sym e ∙ f in cc
 
 -- a path that is copied, by the line that copies it
 abbrev pub IsSource : List Line → Path → Type 0
@@ -140,7 +137,7 @@ some_of (Some p) e = (p, refl)
 
 module _ (lines : List Line) (are : All IsLine lines) (pairs : List Pair)
     (listed : (pair : Pair) → Contains pairs pair → IsAnswered (MayAnswer (reaches_of lines) (length lines)) (length (reaches_of lines)) pair)
-    (recorded : (i j : ℕ) → i < j → j < length (reaches_of lines) → IsTold (MayAnswer (reaches_of lines) (length lines)) pairs i j) where
+    (recorded : (i j : ℕ) → i < j → j < length (reaches_of lines) → IsReported (MayAnswer (reaches_of lines) (length lines)) pairs i j) where
   abbrev count : ℕ
   count = length lines
 
@@ -220,7 +217,7 @@ module _ (lines : List Line) (are : All IsLine lines) (pairs : List Pair)
   pair_of : (i j : ℕ) (a : Line) (b : Reach) (q : Path) → i < j → IsAt lines i a → j < length (reaches_of lines) → reach_at (reaches_of lines) j ≡ b → MetBefore (reach_of a) b q → HasPair i j
   pair_of i j a b q less at l same met = by (recorded i j less l)
     where
-      by : IsTold (MayAnswer (reaches_of lines) count) pairs i j → HasPair i j
+      by : IsReported (MayAnswer (reaches_of lines) count) pairs i j → HasPair i j
       by (inl found) = found
       by (inr none) = absurd (
           let finds : Finds (meets (reach_of a) b) None = subst (λ (x : Reach). Finds (meets (reach_of a) x) None) same (subst (λ (x : Reach). Finds (meets x (reach_at (reaches_of lines) j)) None) (at_line i a at) (none.0 (inside i a at))) in

@@ -9,7 +9,7 @@ use Rattle.pv_lines.specs.declared.line.Line.{Line}
 use Rattle.pv_lines.specs.Lines.{IsLine}
 use Rattle.pv_glob.specs.declared.meeting.Reach.{Reach}
 use Rattle.pv_overlap.specs.declared.pair.Pair.{Pair}
-use Rattle.pv_overlap.specs.Answers.{ComesBefore, IsAnswered, IsTold}
+use Rattle.pv_overlap.specs.Answers.{ComesBefore, IsAnswered, IsReported}
 use Rattle.pv_table.specs.Repeatable.{IsRepeatable}
 use Rattle.pv_overlap.specs.declared.listing.Unrepeatable.{Unrepeatable}
 use Rattle.pv_overlap.specs.Marks.{marks_of, rank}
@@ -95,15 +95,15 @@ one_report lines list other a b =
 
 module _ (lines : List Line) (are : AllByRecursion IsLine lines) (reaches : List Reach) (is : reaches ≡ reaches_of lines) (pairs : List Pair)
     (listed : (pair : Pair) → Contains pairs pair → IsAnswered (MayAnswer reaches (length lines)) (length reaches) pair)
-    (recorded : (i j : ℕ) → i < j → j < length reaches → IsTold (MayAnswer reaches (length lines)) pairs i j) where
+    (recorded : (i j : ℕ) → i < j → j < length reaches → IsReported (MayAnswer reaches (length lines)) pairs i j) where
   each_line : All IsLine lines
   each_line = All-from_recursion IsLine lines are
 
   listed_there : (pair : Pair) → Contains pairs pair → IsAnswered (MayAnswer (reaches_of lines) (length lines)) (length (reaches_of lines)) pair
   listed_there = subst (λ (rs : List Reach). (pair : Pair) → Contains pairs pair → IsAnswered (MayAnswer rs (length lines)) (length rs) pair) is listed
 
-  told_there : (i j : ℕ) → i < j → j < length (reaches_of lines) → IsTold (MayAnswer (reaches_of lines) (length lines)) pairs i j
-  told_there = subst (λ (rs : List Reach). (i j : ℕ) → i < j → j < length rs → IsTold (MayAnswer rs (length lines)) pairs i j) is recorded
+  told_there : (i j : ℕ) → i < j → j < length (reaches_of lines) → IsReported (MayAnswer (reaches_of lines) (length lines)) pairs i j
+  told_there = subst (λ (rs : List Reach). (i j : ℕ) → i < j → j < length rs → IsReported (MayAnswer rs (length lines)) pairs i j) is recorded
 
   pub report_overlaps : AllPairs ComesBefore pairs → (overlaps : List Pair) → overlaps ≡ filter (λ pair. nat_lt pair.second (length lines)) pairs → ListsOverlaps lines overlaps
   report_overlaps ordered overlaps e = subst (ListsOverlaps lines) (sym e) (lists_overlaps lines each_line pairs listed_there told_there ordered)
@@ -117,15 +117,15 @@ module _ (lines : List Line) (are : AllByRecursion IsLine lines) (reaches : List
 -- the same of what the calls have answered
 module _ (lines known : List Line) (same : known ≡ lines) (are : AllByRecursion IsLine lines) (reaches slice : List Reach) (is : reaches ≡ reaches_of known) (own : slice ≡ reaches) (count : ℕ) (counted : count ≡ length lines) (pairs : List Pair)
     (listed : (pair : Pair) → Contains pairs pair → IsAnswered (MayAnswer slice count) (length slice) pair)
-    (recorded : (i j : ℕ) → i < j → j < length slice → IsTold (MayAnswer slice count) pairs i j) where
+    (recorded : (i j : ℕ) → i < j → j < length slice → IsReported (MayAnswer slice count) pairs i j) where
   whole : slice ≡ reaches_of lines
   whole = own ∙ is ∙ ap reaches_of same
 
   listed_all : (pair : Pair) → Contains pairs pair → IsAnswered (MayAnswer slice (length lines)) (length slice) pair
   listed_all = subst (λ (n : ℕ). (pair : Pair) → Contains pairs pair → IsAnswered (MayAnswer slice n) (length slice) pair) counted listed
 
-  told_all : (i j : ℕ) → i < j → j < length slice → IsTold (MayAnswer slice (length lines)) pairs i j
-  told_all = subst (λ (n : ℕ). (i j : ℕ) → i < j → j < length slice → IsTold (MayAnswer slice n) pairs i j) counted recorded
+  told_all : (i j : ℕ) → i < j → j < length slice → IsReported (MayAnswer slice (length lines)) pairs i j
+  told_all = subst (λ (n : ℕ). (i j : ℕ) → i < j → j < length slice → IsReported (MayAnswer slice n) pairs i j) counted recorded
 
   pub made_overlaps : AllPairs ComesBefore pairs → (number : ℕ) → number ≡ length lines → (overlaps : List Pair) → overlaps ≡ filter (λ pair. nat_lt pair.second number) pairs → ListsOverlaps lines overlaps
   made_overlaps ordered number e overlaps f = report_overlaps lines are slice whole pairs listed_all told_all ordered overlaps (f ∙ ap (λ (n : ℕ). filter (λ pair. nat_lt pair.second n) pairs) e)

@@ -5,11 +5,11 @@ use Rattle.std.specs.declared.alloc.AllocError.{AllocError}
 use Rattle.std.specs.BTreeMap.{IsOrdered, get, is_at}
 use Rattle.std.specs.Map.{keys_of}
 use Rattle.std.specs.List.Sorted.{IsStrictlySortedBy}
-use Rattle.std.specs.Ordering.{nat_cmp, is_eq, ordering_then, on}
+use Rattle.std.specs.Ordering.{nat_cmp, ordering_then, on}
 use Rattle.std.specs.Cmp.{IsTotalOrder}
 use Rattle.std.specs.declared.cmp.Ordering.{Ordering}
 use Rattle.std.specs.declared.cmp.Ordering.TheVariants.{Less, Equal, Greater}
-use Rattle.std.proofs.lemmas.Cmp.{tied_itself, nat_cmp_total, on_total, then_total, ranked, by_ranked}
+use Rattle.std.proofs.lemmas.Cmp.{nat_cmp_total, on_total, then_total, ranked, by_ranked}
 use Rattle.std.proofs.lemmas.List.{get_or-map, length-map}
 use Rattle.std.proofs.lemmas.List.Elements.{All-from_recursion}
 use Rattle.std.proofs.lemmas.Bool.{cases_lt}
@@ -17,7 +17,7 @@ use Rattle.std.proofs.lemmas.Map.Views.{btree_map_get_iff}
 use Rattle.pv_path.specs.Paths.{Path, is_prefix}
 use Rattle.pv_overlap.specs.declared.pair.Pair.{Pair}
 use Rattle.pv_overlap.specs.declared.walk.Head.{Head}
-use Rattle.pv_overlap.specs.Answers.{Answers, ComesBefore, IsAnswered, IsTold, SameAnswers}
+use Rattle.pv_overlap.specs.Answers.{Answers, ComesBefore, IsAnswered, IsReported, SameAnswers}
 use Rattle.pv_overlap.specs.Heads.{related}
 use Rattle.pv_overlap.specs.Walk.{Found, Grown, HasAnswer, IsFound, IsOrderOf, IsSound, Walked, found_at, head_at, key_cmp}
 use Rattle.pv_overlap.proofs.Related.{first_begins, kept_open, open_next}
@@ -66,9 +66,6 @@ has_same answers others found same i j has =
     (λ l. none_or (IsFound found i j) (answers i j None) (others i j None) ((same i j None).1) (has.0 l), λ l. none_or (IsFound found j i) (answers j i None) (others j i None) ((same j i None).1) (has.1 l))
 
 module _ (answers : Answers) (heads : ℕ) where
-  pub grown_none : (found : Found) → IsSound answers heads found → Grown answers heads found found
-  grown_none found sound = record { sound = sound; kept = λ i j f. f }
-
   pub grown_on : (old middle new : Found) → Grown answers heads old middle → Grown answers heads middle new → Grown answers heads old new
   grown_on old middle new a b = record { sound = b.sound; kept = λ i j f. b.kept i j (a.kept i j f) }
 
@@ -87,9 +84,6 @@ module _ (answers : Answers) (heads : ℕ) where
 
     at_put : (k l : ℕ) (t : Bool) → is_at (key_cmp (i, j)) (k, l) ≡ t → found_at new k l ≡ cond t (Some path) (found_at old k l)
     at_put k l t e = put (k, l) ∙ ap (λ (b : Bool). cond b (Some path) (get key_cmp old (k, l))) e
-
-    pub put_found : i < j → IsFound new i j
-    put_found l = (path, at_put i j true (ap is_eq (tied_itself key_total (i, j))))
 
     pub grown_by : i < j → j < heads → answers i j (Some path) → IsSound answers heads old → Grown answers heads old new
     grown_by less inside is sound = record { sound = λ k l other e. sound_at k l other e (is_at (key_cmp (i, j)) (k, l)) refl; kept = λ k l f. kept k l f (is_at (key_cmp (i, j)) (k, l)) refl }
@@ -230,10 +224,10 @@ all_answered found answers heads (Err e) sound exact = exact
 
 -- what was answered is listed
 pub all_told : (found : Found) (answers : Answers) (heads : ℕ) (result : Result (List Pair) AllocError) → ((i j : ℕ) → i < j → j < heads → IsFound found i j ⊎ answers i j None)
-    → IfOk result (λ pairs. (pair : Pair) → Contains pairs pair ↔ (found_at found pair.first pair.second ≡ Some pair.path)) → IfOk result (λ pairs. (i j : ℕ) → i < j → j < heads → IsTold answers pairs i j)
+    → IfOk result (λ pairs. (pair : Pair) → Contains pairs pair ↔ (found_at found pair.first pair.second ≡ Some pair.path)) → IfOk result (λ pairs. (i j : ℕ) → i < j → j < heads → IsReported answers pairs i j)
 all_told found answers heads (Ok pairs) all exact = λ i j less far. by i j (all i j less far)
   where
-    by : (i j : ℕ) → IsFound found i j ⊎ answers i j None → IsTold answers pairs i j
+    by : (i j : ℕ) → IsFound found i j ⊎ answers i j None → IsReported answers pairs i j
     by i j (inl f) = inl (f.0, (exact (record { first = i; second = j; path = f.0 })).1 f.1)
     by i j (inr n) = inr n
 all_told found answers heads (Err e) all exact = exact

@@ -1,4 +1,4 @@
--- How reasons are found: marks of lines, each the number of a line and the place of a reason in the table of reasons (this
+-- How hazards are found. A mark is the index of a line and the index of a hazard in the list of hazards (this
 -- project's own).
 use Rattle.std.specs.Prelude.{ℕ, ◌+◌, Bool, not, ◌&&◌, ◌||◌, ◌==◌, nat_lt, List, [], ◌∷◌, ◌++◌, length, Option, Some, None, is_some, slice_get, if◌then◌else◌}
 use Rattle.std.specs.List.{flat_map}
@@ -17,7 +17,7 @@ use Rattle.pv_overlap.specs.declared.listing.Unrepeatable.{Unrepeatable}
 use Rattle.pv_overlap.specs.declared.traits.Traits.{Traits}
 use Rattle.pv_overlap.specs.Subjects.{sources_of}
 
--- the place of a reason in the table of reasons
+-- The index of a hazard in the list of hazards.
 abbrev pub rank : Reason → ℕ
 rank Append = 0
 rank Source = 1
@@ -25,7 +25,7 @@ rank Below = 2
 rank Input = 3
 rank Mask = 4
 
--- the reason at a place of the table
+-- The hazard at an index of this list.
 abbrev pub reason_at : ℕ → Reason
 reason_at place =
     if place == 0 then Append
@@ -37,15 +37,15 @@ reason_at place =
 abbrev pub Mark : Type 0
 Mark = ℕ × ℕ
 
--- the order of marks: by the lines, then by the places of the reasons
+-- Marks are ordered by the lines, and then by the hazards.
 abbrev pub mark_cmp : Mark → Mark → Ordering
 mark_cmp x y = ordering_then (nat_cmp x.0 y.0) (nat_cmp x.1 y.1)
 
--- the line and the reason of a mark
+-- The line and the hazard of a mark.
 abbrev pub reason_of : Mark → Unrepeatable
 reason_of mark = record { line = mark.0; reason = reason_at mark.1 }
 
--- what is asked of a line besides where it stands
+-- What finding hazards needs to know of a line, besides the paths that it reaches.
 abbrev pub traits_of : Line → Traits
 traits_of line = record {
   appends = appends line;
@@ -55,35 +55,35 @@ traits_of line = record {
   copies = is_some (copied (action_of line));
 }
 
--- a mark, where a test holds
+-- A mark, if a test holds.
 abbrev pub mark_if : Bool → ℕ → ℕ → List Mark
 mark_if test line place = if test then (line, place) ∷ [] else []
 
--- the marks of lines that append, from a number on
+-- The marks of lines that append bytes. The first line has the index i.
 abbrev pub own_marks : ℕ → List Line → List Mark
 own_marks i [] = []
 own_marks i (line ∷ lines) = mark_if (appends line) i 0 ++ own_marks (i + 1) lines
 
--- whether a line makes something properly below the path of one that copies
+-- Whether a line makes an object below the path of a line that copies.
 abbrev pub is_below : Line → Line → Bool
 is_below line other =
     is_creating line && is_some (copied (action_of other)) && is_prefix (path_in other.path) (path_in line.path)
     && not (same_path (path_in other.path) (path_in line.path))
 
--- whether one line has a masked mode and the other sets base entries of an ACL
+-- Whether one of two lines has a masked mode, and the other sets base entries of an ACL.
 abbrev pub mixes : Line → Line → Bool
 mixes a b = (has_masked_mode a && sets_base b) || (sets_base a && has_masked_mode b)
 
--- the marks of two lines that share a path
+-- The marks of two lines that share a path. Here i is the lower index.
 abbrev pub shared_marks : ℕ → Line → ℕ → Line → List Mark
 shared_marks i a j b = mark_if (is_below b a) j 2 ++ mark_if (is_below a b) i 2 ++ mark_if (mixes a b) j 4
 
--- the marks of a line that shares a path with what is copied, or with a path from which lines are read
+-- The marks of a line that shares a path with what a line copies, or with an input path. What lines copy has indices
+-- below `sources`.
 abbrev pub outer_marks : ℕ → ℕ → Line → ℕ → List Mark
 outer_marks sources i line j = if nat_lt j sources then (i, 1) ∷ [] else mark_if (changes_content line) i 3
 
--- the marks of a pair by the lines that stand at its numbers: two lines, or a line and another subject; what lines copy
--- stands below the number `sources`
+-- The marks of a pair: two lines, or a line and something else that it shares a path with.
 abbrev pub marks_by : ℕ → Pair → Option Line → Option Line → List Mark
 marks_by sources pair (Some a) (Some b) = shared_marks pair.first a pair.second b
 marks_by sources pair (Some a) None = outer_marks sources pair.first a pair.second
@@ -92,6 +92,6 @@ marks_by sources pair None other = []
 abbrev pub pair_marks : List Line → ℕ → Pair → List Mark
 pair_marks lines sources pair = marks_by sources pair (slice_get lines pair.first) (slice_get lines pair.second)
 
--- all marks
+-- All marks.
 abbrev pub marks_of : List Line → List Pair → List Mark
 marks_of lines pairs = own_marks 0 lines ++ flat_map (pair_marks lines (length lines + length (sources_of lines))) pairs

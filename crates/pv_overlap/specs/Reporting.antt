@@ -10,26 +10,26 @@ use Rattle.pv_table.specs.Repeatable.{HasReason, Overlap}
 use Rattle.pv_overlap.specs.declared.listing.Unrepeatable.{Unrepeatable}
 use Rattle.pv_overlap.specs.Marks.{rank}
 
--- whether two lines reach a path that can stand in a tree
+-- Whether two lines both reach a path that a tree can have.
 abbrev pub both_reach : Line → Line → Path → Bool
 both_reach a b q = has_names q && reaches a q && reaches b q
 
--- two lines that share a path, with the first such path
+-- Two lines that share a path, with the first such path.
 pub record IsShared (lines : List Line) (pair : Pair) : Type 0 where
   pub overlap : Overlap lines pair.first pair.second
   pub path : IsFirst shared_cmp (both_reach overlap.first overlap.second) pair.path
 
--- each two lines that share a path, once, in order, each with the first such path
+-- Each two lines that share a path, once and in order, with the first such path.
 pub record ListsOverlaps (lines : List Line) (pairs : List Pair) : Type 0 where
   pub each : (pair : Pair) → Contains pairs pair → IsShared lines pair
   pub all : (i j : ℕ) → Overlap lines i j → (path : Path) × Contains pairs (record { first = i; second = j; path = path })
   pub ordered : AllPairs ComesBefore pairs
 
--- the order of lines with reasons: by the lines, then by the reasons
+-- Hazards are ordered by the lines, and then by their index in the list of hazards.
 abbrev pub ComesFirst : Unrepeatable → Unrepeatable → Type 0
 ComesFirst u v = (u.line < v.line) ⊎ ((u.line ≡ v.line) × (rank u.reason < rank v.reason))
 
--- each line with each of its reasons, once, in order
+-- Each hazard of each line, once and in order, and nothing else.
 pub record ListsReasons (lines : List Line) (list : List Unrepeatable) : Type 0 where
   pub exact : (u : Unrepeatable) → Contains list u ↔ HasReason lines u.line u.reason
   pub ordered : AllPairs ComesFirst list

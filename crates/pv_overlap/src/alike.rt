@@ -1,4 +1,4 @@
-//! Which reaches are surely the same.
+//! Which reaches are surely equal.
 ghost use Rattle.std.specs.Prelude.{◌≡◌, ℕ, ◌<◌, ◌^◌, ◌++◌, ◌∷◌, [], true, length, map, IfOk, OnOk};
 ghost use Rattle.pv_overlap.specs.Alike.{byte_for, spelled, spelling_of, AreFirsts};
 ghost use Rattle.pv_overlap.specs.Subjects.{reach_at};
@@ -7,7 +7,7 @@ use pv_glob::{Component, Element, Plain, Reach};
 use std::alloc::{AllocError, Global};
 use std::collections::HashMap;
 
-/// The byte by which an element is spelled; some elements have one byte together.
+/// Returns the byte by which an element is spelled. Some elements have the same byte.
 fn byte_for(element: &Element) -> u8
     ensures { result ≡ byte_for element.now }
 {
@@ -30,7 +30,7 @@ fn add_spelled(text: &mut Vec<u8>, component: &[Element]) -> Result<(), AllocErr
     Ok(())
 }
 
-/// The spelling of some components. Different components may have one.
+/// Returns the spelling of components. Different components may have the same one.
 fn spelled(alloc: Global, components: &[Component]) -> Result<Vec<u8>, AllocError>
     ensures { IfOk result (λ text. text.items ≡ spelled components.now) }
 {
@@ -41,7 +41,7 @@ fn spelled(alloc: Global, components: &[Component]) -> Result<Vec<u8>, AllocErro
     Ok(text)
 }
 
-/// Whether two elements are surely the same. Brackets are not compared.
+/// Returns `true` only if two elements are equal. Brackets are not compared.
 fn are_same(a: &Element, b: &Element) -> bool
     ensures { result ≡ true → a.now ≡ b.now }
 {
@@ -53,7 +53,7 @@ fn are_same(a: &Element, b: &Element) -> bool
     }
 }
 
-/// Whether two components are surely the same.
+/// Returns `true` only if two components are equal.
 fn are_same_component(a: &[Element], b: &[Element]) -> bool
     ensures { result ≡ true → a.now ≡ b.now }
 {
@@ -65,7 +65,7 @@ fn are_same_component(a: &[Element], b: &[Element]) -> bool
     a.len() == b.len()
 }
 
-/// Whether the components of two patterns are surely the same.
+/// Returns `true` only if the components of two patterns are equal.
 fn are_same_components(a: &[Component], b: &[Component]) -> bool
     ensures { result ≡ true → a.now ≡ b.now }
 {
@@ -77,7 +77,7 @@ fn are_same_components(a: &[Component], b: &[Component]) -> bool
     a.len() == b.len()
 }
 
-/// Whether two patterns without braces are surely the same.
+/// Returns `true` only if two patterns are equal. Patterns with braces are not compared.
 fn are_same_plains(a: &[Plain], b: &[Plain]) -> bool
     ensures { result ≡ true → a.now ≡ b.now }
 {
@@ -87,14 +87,15 @@ fn are_same_plains(a: &[Plain], b: &[Plain]) -> bool
     }
 }
 
-/// Whether two reaches are surely the same. Those of patterns with braces or brackets are not compared.
+/// Returns `true` only if two reaches are equal. Those of patterns with braces or brackets are not compared.
 fn are_same_reaches(a: &Reach, b: &Reach) -> bool
     ensures { result ≡ true → a.now ≡ b.now }
 {
     a.below == b.below && are_same_plains(a.pattern.plains(), b.pattern.plains())
 }
 
-/// The number of an earlier reach, where that is surely the same as the one at a place, or else that place.
+/// Returns the index of an earlier reach if that is surely equal to the one at an index. Otherwise, it returns this
+/// index.
 fn first_for(reaches: &[Reach], earlier: u32, at: u32) -> u32
     requires { at < length reaches.now }
     ensures inside { result < length reaches.now }
@@ -109,7 +110,7 @@ fn first_for(reaches: &[Reach], earlier: u32, at: u32) -> u32
     }
 }
 
-/// The spelling of a reach without braces.
+/// Returns the spelling of a reach without braces.
 fn spelling_of(alloc: Global, reach: &Reach) -> Result<Vec<u8>, AllocError>
     ensures { IfOk result (λ text. text.items ≡ spelling_of reach.now) }
 {
@@ -119,7 +120,7 @@ fn spelling_of(alloc: Global, reach: &Reach) -> Result<Vec<u8>, AllocError>
     }
 }
 
-/// For each reach the number of one that is the same: of those with one spelling mostly the first.
+/// Returns for each reach the index of an equal one. Of reaches with one spelling this is mostly the first.
 pub(crate) fn firsts_of(alloc: Global, reaches: &[Reach]) -> Result<Vec<u32>, AllocError>
     requires few { length reaches.now < 2 ^ 32 }
     ensures { IfOk result (λ firsts. AreFirsts reaches.now firsts.items) }

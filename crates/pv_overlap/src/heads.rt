@@ -1,4 +1,4 @@
-//! The heads of patterns.
+//! The heads of patterns: the paths with which everything that they match begins.
 ghost use Rattle.std.specs.Prelude.{◌≡◌, ℕ, List, [], ◌∷◌, ◌++◌, true, Option, Some, None, IfOk, take};
 ghost use Rattle.pv_path.specs.Names.{is_name};
 ghost use Rattle.pv_overlap.specs.Heads.{common, common_with, head_of, head_of_all};
@@ -7,7 +7,7 @@ use pv_glob::{Component, Pattern, Plain, written};
 use pv_path::{Name, TreePath, is_name};
 use std::alloc::{AllocError, Global};
 
-/// The head of the pattern of these components.
+/// Returns the head of a pattern without braces, for its components.
 fn head_of(alloc: Global, components: &[Component]) -> Result<TreePath, AllocError>
     ensures { IfOk result (λ head. head ≡ head_of components.now) }
 {
@@ -24,7 +24,7 @@ fn head_of(alloc: Global, components: &[Component]) -> Result<TreePath, AllocErr
     Ok(head)
 }
 
-/// The longest path that is a prefix of both.
+/// Returns the longest path that is a prefix of both.
 fn common(alloc: Global, a: &TreePath, b: &TreePath) -> Result<TreePath, AllocError>
     ensures { IfOk result (λ path. path ≡ common a.now b.now) }
 {
@@ -39,7 +39,7 @@ fn common(alloc: Global, a: &TreePath, b: &TreePath) -> Result<TreePath, AllocEr
     Ok(path)
 }
 
-/// The longest path that is a prefix of a path and of the heads of some patterns without braces.
+/// Returns the longest path that is a prefix of a path and of the heads of some patterns without braces.
 fn common_with(alloc: Global, path: TreePath, plains: &[Plain]) -> Result<TreePath, AllocError>
     ensures { IfOk result (λ head. head ≡ common_with path plains.now) }
 {
@@ -51,9 +51,14 @@ fn common_with(alloc: Global, path: TreePath, plains: &[Plain]) -> Result<TreePa
     Ok(head)
 }
 
-/// The head of a pattern: the longest path that is a prefix of the head of each expansion. The head of a pattern
-/// without braces is the path of its leading components that match one name alone (glob(7)). It ends before the first
-/// whose bytes are not a name. For a pattern that matches one path alone it is that path.
+/// Returns the head of a pattern: the longest path that is a prefix of the head of each expansion (glob(7)).
+///
+/// The head of a pattern without braces has the leading components that match one name alone. It ends before the first
+/// component with a wildcard, and before one whose bytes are not a name. For a pattern that matches one path alone, the
+/// head is this path.
+///
+/// For example, the head of `/var/log/*.log` is `/var/log`, and that of `/a/{b,c}` is `/a`. The only error is
+/// `AllocError`.
 pub fn head(alloc: Global, pattern: &Pattern) -> Result<TreePath, AllocError>
     ensures { IfOk result (λ head. head ≡ head_of_all pattern.now) }
 {

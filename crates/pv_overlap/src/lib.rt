@@ -1,6 +1,6 @@
-//! The report on the lines of a configuration (tmpfiles.d(5)). It says which lines share a path, and asks only for
-//! those whose heads allow it. It says which lines have a hazard, so that running them twice may leave something other
-//! than running them once.
+//! The report on the lines of a configuration (tmpfiles.d(5), `--report`). [`report`] finds the lines that share a
+//! path, and the lines with a hazard. A hazard is what can make creating twice differ from creating once. To be fast,
+//! two lines are compared only if the head of one pattern is a prefix of the head of the other.
 #![tactic(auto)]
 
 mod alike;

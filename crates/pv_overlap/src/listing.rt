@@ -1,25 +1,27 @@
-//! What a report lists: the lines that share a path, and the reasons against repeating.
+//! What a report lists: the lines that share a path, and the lines with a hazard.
 use crate::pair::PairList;
 use pv_path::Sequence;
 use pv_table::Reason;
 
-/// A line, by its number counted from 0, and a hazard of it.
+/// A line with a hazard. The line is given by its index, counted from 0.
 #[derive(Drop)]
 pub struct Unrepeatable {
-    /// The number of the line.
+    /// The index of the line.
     pub line: u32,
-    /// The reason.
+    /// The hazard.
     pub reason: Reason,
 }
 
-/// Lines with their reasons, in some order.
+/// A list of lines with their hazards. In contracts, a value is the list of these.
 pub type ReasonList = Sequence<Unrepeatable>;
 
-/// Which lines share a path, and which have a hazard.
+/// A report on lines: which of them share a path, and which have a hazard.
 #[derive(Drop)]
 pub struct Report {
-    /// Each two lines that share a path, with the first such path, in the order of their numbers.
+    /// Each pair of lines that share a path, with the first such path. The list is in the order of the first indices,
+    /// then of the second ones.
     pub pairs: PairList,
-    /// Each line with each of its reasons, in the order of the numbers and then of the reasons.
+    /// Each line with each of its hazards. The list is in the order of the indices, then of the hazards: append,
+    /// source, below, input, mask.
     pub unrepeatable: ReasonList,
 }

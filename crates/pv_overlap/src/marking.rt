@@ -1,4 +1,5 @@
-//! The reasons, found by marks of lines.
+//! The hazards of lines, found by marks. The input paths are those that configuration lines are read from: the folders
+//! of tmpfiles.d(5) with all below them, /etc/passwd and /etc/group.
 ghost use Rattle.std.specs.Prelude.{◌≡◌, ◌↔◌, ℕ, ◌+◌, ◌<◌, ◌^◌, ◌++◌, ◌&&◌, ◌||◌, map, is_some, length, slice_get, All, AllPairs, Contains, IfOk, IfSome, OnOk};
 ghost use Rattle.std.specs.Option.{option_map};
 ghost use Rattle.pv_path.specs.Paths.{is_prefix};
@@ -21,10 +22,10 @@ use pv_path::{Name, names_under};
 use pv_table::{Reason, is_creating};
 use std::alloc::{AllocError, Global};
 
-/// The number of a line, and the index of a hazard in the table of hazards.
+/// The index of a line, and the index of a hazard in the table of hazards.
 type Mark = (u32, u32);
 
-/// The reason at a place of the table.
+/// Returns the hazard at an index of the table.
 fn reason_at(place: u32) -> Reason
     ensures { result ≡ reason_at place }
 {
@@ -37,7 +38,7 @@ fn reason_at(place: u32) -> Reason
     }
 }
 
-/// Adds a mark, where a test holds.
+/// Adds a mark if a test holds.
 fn mark_if(marks: &mut Vec<Mark>, test: bool, line: u32, place: u32) -> Result<(), AllocError>
     ensures { OnOk result (marks.new.items ≡ marks.old.items ++ mark_if test line place) }
 {
@@ -47,7 +48,7 @@ fn mark_if(marks: &mut Vec<Mark>, test: bool, line: u32, place: u32) -> Result<(
     Ok(())
 }
 
-/// What is asked of each line.
+/// Returns the properties of each line.
 fn all_traits(alloc: Global, lines: &[Line]) -> Result<Vec<Traits>, AllocError>
     ensures { IfOk result (λ traits. traits.items ≡ map traits_of lines.now) }
 {
@@ -58,7 +59,7 @@ fn all_traits(alloc: Global, lines: &[Line]) -> Result<Vec<Traits>, AllocError>
     Ok(traits)
 }
 
-/// The marks of lines that append.
+/// Returns the marks of lines that append.
 fn own_marks(alloc: Global, lines: &[Line], traits: &[Traits]) -> Result<Vec<Mark>, AllocError>
     requires traits { traits.now ≡ map traits_of lines.now }
     requires few { length lines.now < 2 ^ 32 }
@@ -71,7 +72,7 @@ fn own_marks(alloc: Global, lines: &[Line], traits: &[Traits]) -> Result<Vec<Mar
     Ok(marks)
 }
 
-/// The path of a line that makes something; of another line the root.
+/// Returns the path of a line that makes an object, and for another line the root.
 fn names_of(path: &LinePath) -> &[Name]
     ensures { result.now ≡ path_in path.now }
 {
@@ -81,14 +82,14 @@ fn names_of(path: &LinePath) -> &[Name]
     }
 }
 
-/// Whether the names of one path begin another.
+/// Returns whether the names of one path begin another.
 fn begins(above: &[Name], path: &[Name]) -> bool
     ensures { result ≡ is_prefix above.now path.now }
 {
     names_under(above, path).is_some()
 }
 
-/// Whether a line makes something properly below the path of one that copies.
+/// Returns whether a line makes an object below the path of a line that copies.
 fn is_below(line: &Line, other: &Line, copies: bool) -> bool
     requires { copies ≡ is_some (copied (action_of other.now)) }
     ensures { result ≡ is_below line.now other.now }
@@ -98,14 +99,14 @@ fn is_below(line: &Line, other: &Line, copies: bool) -> bool
     is_creating(line) && copies && begins(above, path) && above != path
 }
 
-/// Whether one line has a masked mode and the other sets base entries of an ACL.
+/// Returns whether one line has a masked mode and the other sets base entries of an ACL.
 fn mixes(a: &Traits, b: &Traits) -> bool
     ensures { result ≡ ((a.now.masked && b.now.base) || (a.now.base && b.now.masked)) }
 {
     (a.masked && b.base) || (a.base && b.masked)
 }
 
-/// A line with its number and what is asked of it.
+/// A line with its index and its properties.
 #[derive(Clone, Copy)]
 struct KnownLine<'a> {
     number: u32,
@@ -113,7 +114,7 @@ struct KnownLine<'a> {
     traits: Traits,
 }
 
-/// The line of a number, if there is one.
+/// Returns the line of an index, or `None` if there is none.
 fn known_line<'a>(lines: &'a [Line], traits: &[Traits], number: u32) -> Option<KnownLine<'a>>
     requires { traits.now ≡ map traits_of lines.now }
     ensures line { option_map (λ known. known.line.now) result ≡ slice_get lines.now number }
@@ -151,7 +152,7 @@ fn add_shared(marks: &mut Vec<Mark>, a: KnownLine<'_>, b: KnownLine<'_>) -> Resu
     mark_if(marks, mixes(&a.traits, &b.traits), b.number, 4)
 }
 
-/// Adds the marks of a line that shares a path with what is copied, or with a path from which lines are read.
+/// Adds the mark of a line that shares a path with what is copied, or with an input path.
 fn add_outer(
     marks: &mut Vec<Mark>,
     sources: usize,
@@ -189,7 +190,7 @@ fn add_pair(
     }
 }
 
-/// The marks of lines with these pairs.
+/// Returns the marks of lines with these pairs.
 fn marks_of(alloc: Global, lines: &[Line], pairs: &[Pair]) -> Result<Vec<Mark>, AllocError>
     requires few { length lines.now < 2 ^ 32 }
     ensures { IfOk result (λ marks. marks.items ≡ marks_of lines.now pairs.now) }
@@ -203,7 +204,7 @@ fn marks_of(alloc: Global, lines: &[Line], pairs: &[Pair]) -> Result<Vec<Mark>, 
     Ok(marks)
 }
 
-/// Some marks in order, each once.
+/// Returns the marks in their order, each once.
 fn in_order(marks: Vec<Mark>) -> Vec<Mark>
     ensures same { (mark : Place) → Contains result.items mark ↔ Contains marks.items mark }
     ensures sorted { IsStrictlySortedBy mark_cmp result.items }
@@ -214,7 +215,7 @@ fn in_order(marks: Vec<Mark>) -> Vec<Mark>
     marks
 }
 
-/// The reasons that marks stand for.
+/// Returns the hazards that marks stand for.
 fn listed(alloc: Global, marks: &[Mark]) -> Result<ReasonList, AllocError>
     ensures { IfOk result (λ list. list ≡ map reason_of marks.now) }
 {
@@ -228,7 +229,7 @@ fn listed(alloc: Global, marks: &[Mark]) -> Result<ReasonList, AllocError>
     Ok(list)
 }
 
-/// The reasons of lines whose pairs are these, in order.
+/// Returns the hazards of lines whose pairs are these, in their order.
 pub(crate) fn reasons_of(
     alloc: Global,
     lines: &[Line],

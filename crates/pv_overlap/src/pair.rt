@@ -1,16 +1,16 @@
-//! Pairs of heads with a path.
+//! Pairs of heads, each with a path.
 use pv_path::{Sequence, TreePath};
 
-/// Two heads, by their numbers counted from 0, the lesser one first, and a path for them.
+/// Two heads, or two lines, with a path that they share. They are given by their indices, counted from 0.
 #[derive(Drop)]
 pub struct Pair {
-    /// The number of the first.
+    /// The index of the first one.
     pub first: u32,
-    /// The number of the second, which is greater.
+    /// The index of the second one, which is greater.
     pub second: u32,
     /// The path.
     pub path: TreePath,
 }
 
-/// Pairs in some order.
+/// A list of pairs. In contracts, a value is the list of the pairs.
 pub type PairList = Sequence<Pair>;

@@ -10,7 +10,7 @@ use pv_lines::{Line, LinePath};
 use pv_path::TreePath;
 use std::alloc::{AllocError, Global};
 
-/// The pattern of what a line names.
+/// Returns the pattern of what a line names.
 fn pattern_of(alloc: Global, line: &Line) -> Result<Pattern, AllocError>
     requires { IsLine line.now }
     ensures { IfOk result (λ pattern. pattern ≡ plains_of line.now.path) }
@@ -21,7 +21,7 @@ fn pattern_of(alloc: Global, line: &Line) -> Result<Pattern, AllocError>
     }
 }
 
-/// What a line reaches (tmpfiles.d(5)).
+/// Returns what a line reaches (tmpfiles.d(5)).
 pub(crate) fn reach_of(alloc: Global, line: &Line) -> Result<Reach, AllocError>
     requires { IsLine line.now }
     ensures { IfOk result (λ reach. reach ≡ reach_of line.now) }
@@ -32,7 +32,7 @@ pub(crate) fn reach_of(alloc: Global, line: &Line) -> Result<Reach, AllocError>
     })
 }
 
-/// A path with all below it.
+/// Returns the reach of a path with everything below it.
 pub(crate) fn reach_under(alloc: Global, path: &TreePath) -> Result<Reach, AllocError>
     requires { has_staging path.now ≡ false }
     ensures { IfOk result (λ reach. reach ≡ reach_under path.now) }

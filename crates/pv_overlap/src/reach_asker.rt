@@ -1,9 +1,9 @@
-//! The pairs of reaches that share a path, asked of the machines of patterns.
+//! The pairs of reaches that share a path. The automata of their patterns are asked.
 ghost use Rattle.std.specs.Prelude.{◌≡◌, ℕ, ◌+◌, ◌*◌, ◌<◌, ◌^◌, length, All, AllPairs, Contains, IfOk, IfSome, ⊤};
 ghost use Rattle.pv_path.specs.Paths.{Path};
 ghost use Rattle.pv_glob.specs.Words.{Finds};
 ghost use Rattle.pv_overlap.specs.declared.pair.Pair.{Pair as PairValue};
-ghost use Rattle.pv_overlap.specs.Answers.{ComesBefore, IsAnswered, IsTold};
+ghost use Rattle.pv_overlap.specs.Answers.{ComesBefore, IsAnswered, IsReported};
 ghost use Rattle.pv_overlap.specs.Alike.{key_of};
 ghost use Rattle.pv_overlap.specs.Subjects.{heads_of, MayAnswer, meets, reach_at};
 
@@ -18,14 +18,15 @@ use std::alloc::{AllocError, Global};
 use std::collections::HashMap;
 use std::marker::Model;
 
-/// Reaches, the first so many of which are those of lines. Clauses see these two alone.
+/// Reaches, the first ones of which are those of lines. In contracts, a value is the list of the reaches and the number
+/// of lines.
 #[derive(Drop)]
 pub(crate) struct Meeting<'a> {
     reaches: &'a [Reach],
     lines: usize,
-    /// For each reach the number of one that is the same.
+    /// For each reach, the index of an equal one.
     firsts: Vec<u32>,
-    /// What was answered for two reaches to which others are the same.
+    /// What was answered for two reaches to which others are equal.
     known: HashMap<u64, Option<TreePath>>,
 }
 
@@ -41,7 +42,7 @@ impl<'a> Model for Meeting<'a> {
     ghost invariant = { λ m. AreFirsts m.reaches.now m.firsts.items × AreAnswers m.reaches.now m.known.entries };
 }
 
-/// A copy of an answer.
+/// Returns a copy of an answer.
 fn copied(found: &Option<TreePath>) -> Result<Option<TreePath>, AllocError>
     ensures { IfOk result (λ copy. copy ≡ found.now) }
 {
@@ -51,7 +52,7 @@ fn copied(found: &Option<TreePath>) -> Result<Option<TreePath>, AllocError>
     }
 }
 
-/// The number that stands for two reaches.
+/// Returns the number that stands for two indices.
 fn key_of(a: u32, b: u32) -> u64
     ensures { result ≡ key_of a b }
 {
@@ -59,7 +60,7 @@ fn key_of(a: u32, b: u32) -> u64
 }
 
 impl<'a> Meeting<'a> {
-    /// Reaches, the first so many of which are those of lines.
+    /// Makes the asker for these reaches, of which the first `lines` are those of lines.
     fn of(alloc: Global, reaches: &'a [Reach], lines: usize) -> Result<Self, AllocError>
         requires few { length reaches.now < 2 ^ 32 }
         ensures { IfOk result (λ meeting. meeting ≡ (reaches.entry.now, lines)) }
@@ -72,7 +73,7 @@ impl<'a> Meeting<'a> {
         })
     }
 
-    /// The number of a reach that is the same as the one at a place.
+    /// Returns the index of a reach that is equal to the one at an index.
     fn first(&self, i: u32) -> u32
         requires { i < length self.now.0 }
         ensures { reach_at self.now.0 result ≡ reach_at self.now.0 i }
@@ -80,7 +81,7 @@ impl<'a> Meeting<'a> {
         self.firsts[i as usize]
     }
 
-    /// The first path that two reaches share, or nothing if they share none.
+    /// Returns the first path that two reaches share, or `None` if they share none.
     fn met(&self, alloc: Global, i: u32, j: u32) -> Result<Option<TreePath>, AllocError>
         requires i { i < length self.now.0 }
         requires j { j < length self.now.0 }
@@ -89,7 +90,7 @@ impl<'a> Meeting<'a> {
         meet(alloc, &self.reaches[i as usize], &self.reaches[j as usize])
     }
 
-    /// What was answered for two reaches before.
+    /// Returns what was answered for two reaches before, if they were asked for.
     fn answered(&self, a: u32, b: u32) -> Option<&Option<TreePath>>
         ensures { IfSome result (λ found. Finds (meets (reach_at self.now.0 a) (reach_at self.now.0 b)) found.now) }
     {
@@ -105,7 +106,8 @@ impl<'a> Meeting<'a> {
         Ok(())
     }
 
-    /// The first path that two reaches share, which is looked up where two that are the same were asked for before.
+    /// Returns the first path that two reaches share, or `None`. It is looked up if two equal reaches were asked for
+    /// before.
     fn found(&mut self, alloc: Global, i: u32, j: u32) -> Result<Option<TreePath>, AllocError>
         requires i { i < length self.old.0 }
         requires j { j < length self.old.0 }
@@ -145,7 +147,7 @@ impl<'a> Asker for Meeting<'a> {
     ghost asked_on = { λ _ _ _ _ _ _ _. tt };
 }
 
-/// The heads of reaches.
+/// Returns the heads of reaches.
 fn heads_of(alloc: Global, reaches: &[Reach]) -> Result<PathList, AllocError>
     ensures { IfOk result (λ heads. heads ≡ heads_of reaches.now) }
 {
@@ -156,7 +158,8 @@ fn heads_of(alloc: Global, reaches: &[Reach]) -> Result<PathList, AllocError>
     Ok(heads)
 }
 
-/// The pairs of reaches that share a path, each with the first, where the first of both is the reach of a line.
+/// Returns the pairs of reaches that share a path, each with the first such path. The first reach of a pair is that of
+/// a line.
 pub(crate) fn pairs_of(
     alloc: Global,
     reaches: &[Reach],
@@ -164,7 +167,7 @@ pub(crate) fn pairs_of(
 ) -> Result<PairList, AllocError>
     requires few { length reaches.now < 2 ^ 32 }
     ensures listed { IfOk result (λ pairs. (pair : PairValue) → Contains pairs pair → IsAnswered (MayAnswer reaches.now lines) (length reaches.now) pair) }
-    ensures all { IfOk result (λ pairs. (i j : ℕ) → i < j → j < length reaches.now → IsTold (MayAnswer reaches.now lines) pairs i j) }
+    ensures all { IfOk result (λ pairs. (i j : ℕ) → i < j → j < length reaches.now → IsReported (MayAnswer reaches.now lines) pairs i j) }
     ensures ordered { IfOk result (AllPairs ComesBefore) }
 {
     let heads = heads_of(alloc, reaches)?;

@@ -11,7 +11,7 @@ use crate::subject::reaches_of;
 use pv_lines::LineList;
 use std::alloc::{AllocError, Global};
 
-/// The pairs of lines among some pairs.
+/// Returns those pairs in which both are lines.
 fn overlaps_of(alloc: Global, pairs: PairList, lines: usize) -> Result<PairList, AllocError>
     ensures { IfOk result (λ overlaps. overlaps ≡ filter (λ pair. nat_lt pair.second lines) pairs) }
 {
@@ -24,8 +24,16 @@ fn overlaps_of(alloc: Global, pairs: PairList, lines: usize) -> Result<PairList,
     Ok(overlaps)
 }
 
-/// The report on lines of a configuration (tmpfiles.d(5)). It looks at all of them, active or not. Only lines of which
-/// one has a head that begins the head of the other are compared.
+/// Returns the report on lines of a configuration (tmpfiles.d(5)): which of them share a path, and which have a hazard.
+///
+/// All lines are looked at, active or not. There must be fewer than 2^32 lines. Two lines share a path if both reach it
+/// and it can be in a tree. The path of a pair is the first such path: it has the fewest names and, among such paths,
+/// the shortest names.
+///
+/// If no line has a hazard, and only then, the list `unrepeatable` is empty.
+///
+/// The only error is `AllocError`. It also comes if the lines, the paths that they copy and the input paths are more
+/// than 2^32 - 1 together.
 pub fn report(alloc: Global, lines: &LineList) -> Result<Report, AllocError>
     requires { length lines.now < 2 ^ 32 }
     ensures overlaps { IfOk result (λ report. ListsOverlaps lines.now report.pairs) }

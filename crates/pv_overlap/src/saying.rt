@@ -1,4 +1,4 @@
-//! What is said of a report.
+//! The messages of a report.
 ghost use Rattle.std.specs.Prelude.{◌≡◌, ◌↔◌, ◌++◌, ◌∷◌, [], codes, map, true, unwrap_or, slice_get, IfOk, OnOk};
 ghost use Rattle.std.specs.Fmt.{decimal};
 ghost use Rattle.pv_text.specs.Lines.{is_line};
@@ -15,7 +15,7 @@ use pv_table::Reason;
 use pv_text::{Messages, OneLine};
 use std::alloc::{AllocError, Global};
 
-/// The words for a hazard.
+/// Returns the word for a hazard, such as `append`.
 fn reason_text(reason: Reason) -> &'static [u8]
     ensures text { result.now ≡ reason_text reason }
     ensures line { is_line result.now ≡ true }
@@ -29,7 +29,10 @@ fn reason_text(reason: Reason) -> &'static [u8]
     }
 }
 
-/// Where a line stands, `FILE:N`.
+/// Returns the text `FILE:N` of the location of a line: its file and its line number.
+///
+/// The text fits into one line. For example, for the third line of `/etc/tmpfiles.d/a.conf` it is
+/// `/etc/tmpfiles.d/a.conf:3`. The only error is `AllocError`.
 pub fn place_text(alloc: Global, file: &OneLine, number: u32) -> Result<Vec<u8>, AllocError>
     ensures text { IfOk result (λ text. text.items ≡ file.now ++ codes ":" ++ decimal number) }
     ensures line { IfOk result (λ text. is_line text.items ≡ true) }
@@ -41,7 +44,7 @@ pub fn place_text(alloc: Global, file: &OneLine, number: u32) -> Result<Vec<u8>,
     Ok(text)
 }
 
-/// Where a line stands, `FILE:N`; nothing past the last.
+/// Returns the text `FILE:N` of the line at an index, or an empty text if there is no such line.
 fn line_text(alloc: Global, lines: &[Line], i: u32) -> Result<Vec<u8>, AllocError>
     ensures text { IfOk result (λ text. text.items ≡ line_text lines.now i) }
     ensures line { IfOk result (λ text. is_line text.items ≡ true) }
@@ -52,7 +55,7 @@ fn line_text(alloc: Global, lines: &[Line], i: u32) -> Result<Vec<u8>, AllocErro
     }
 }
 
-/// Where lines stand, each `FILE:N`.
+/// Returns the texts `FILE:N` of lines.
 fn line_texts(alloc: Global, lines: &[Line]) -> Result<Messages, AllocError>
     ensures { IfOk result (λ texts. texts ≡ map standing_text lines.now) }
 {
@@ -63,7 +66,7 @@ fn line_texts(alloc: Global, lines: &[Line]) -> Result<Messages, AllocError>
     Ok(texts)
 }
 
-/// The text at a place; nothing past the last.
+/// Returns the text at an index, or an empty one if there is no such text.
 fn text_at(texts: &Messages, i: u32) -> &[u8]
     ensures text { result.now ≡ unwrap_or (slice_get texts.now i) [] }
     ensures line { is_line result.now ≡ true }
@@ -74,7 +77,7 @@ fn text_at(texts: &Messages, i: u32) -> &[u8]
     }
 }
 
-/// `overlap FILE:N FILE:N at PATH`.
+/// Returns the text `overlap FILE:N FILE:N at PATH`.
 fn overlap_text(
     alloc: Global,
     first: &[u8],
@@ -96,7 +99,7 @@ fn overlap_text(
     Ok(text)
 }
 
-/// `unrepeatable FILE:N REASON`.
+/// Returns the text `unrepeatable FILE:N HAZARD`.
 fn unrepeatable_text(
     alloc: Global,
     lines: &[Line],
@@ -114,7 +117,8 @@ fn unrepeatable_text(
     Ok(text)
 }
 
-/// The verdict on lines with these reasons, `repeatable` or `not repeatable`. It takes no memory.
+/// Returns the verdict on lines with these hazards: `repeatable` if the list is empty, otherwise `not repeatable`. The
+/// call does not allocate.
 pub fn verdict(list: &[Unrepeatable]) -> &'static [u8]
     ensures text { result.now ≡ verdict list.now }
     ensures line { is_line result.now ≡ true }
@@ -126,7 +130,7 @@ pub fn verdict(list: &[Unrepeatable]) -> &'static [u8]
     }
 }
 
-/// Says which lines share a path. Where a line stands is printed once.
+/// Adds the messages on lines that share a path. The text of each location is made once.
 fn say_overlaps(
     alloc: Global,
     lines: &[Line],
@@ -145,7 +149,7 @@ fn say_overlaps(
     Ok(())
 }
 
-/// Says which lines have reasons.
+/// Adds the messages on lines with a hazard.
 fn say_reasons(
     alloc: Global,
     lines: &[Line],
@@ -161,9 +165,14 @@ fn say_reasons(
     Ok(())
 }
 
-/// Says what a report on lines lists: each two lines that share a path, each line with each of its hazards, and whether
-/// there is none. The last message on a report of these lines is `repeatable` exactly if no line has a hazard. After
-/// running out of memory the first of these messages were said, and no others.
+/// Adds the messages of a report on these lines, in this order:
+///
+/// - for each pair of lines that share a path, `overlap FILE:N FILE:N at PATH`;
+/// - for each hazard of a line, `unrepeatable FILE:N HAZARD`;
+/// - last the verdict, `repeatable` or `not repeatable`.
+///
+/// If the report has exactly the hazards of these lines, the last message is `repeatable` exactly if no line has a
+/// hazard. The only error is `AllocError`. Then a prefix of these messages was added.
 pub fn say_report(
     alloc: Global,
     lines: &LineList,

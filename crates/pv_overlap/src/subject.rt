@@ -1,4 +1,6 @@
-//! All that is compared: lines, what they copy, and the paths from which lines are read.
+//! Everything that is compared: the lines, the paths that they copy, and the input paths. The input paths are those
+//! that configuration lines are read from: the folders of tmpfiles.d(5) with all below them, /etc/passwd and
+//! /etc/group.
 ghost use Rattle.std.specs.Prelude.{◌≡◌, ◌++◌, map, All, false, IfOk, OnOk};
 ghost use Rattle.std.specs.List.{AllByRecursion};
 ghost use Rattle.std.specs.Option.{option_to_list};
@@ -16,7 +18,7 @@ use pv_path::{PathList, TreePath};
 use pv_table::{Action, action_of};
 use std::alloc::{AllocError, Global};
 
-/// What a line copies.
+/// Returns the path that a line copies, or `None` if it copies nothing.
 fn source_of(alloc: Global, line: &Line) -> Result<Option<TreePath>, AllocError>
     ensures { IfOk result (λ source. source ≡ copied (action_of line.now)) }
 {
@@ -36,7 +38,7 @@ fn add_source(sources: &mut PathList, source: Option<TreePath>) -> Result<(), Al
     }
 }
 
-/// What lines copy.
+/// Returns the paths that lines copy.
 pub(crate) fn sources_of(alloc: Global, lines: &[Line]) -> Result<PathList, AllocError>
     ensures { IfOk result (λ sources. sources ≡ sources_of lines.now) }
 {
@@ -47,7 +49,7 @@ pub(crate) fn sources_of(alloc: Global, lines: &[Line]) -> Result<PathList, Allo
     Ok(sources)
 }
 
-/// The reaches of lines.
+/// Returns the reaches of lines.
 fn line_reaches(alloc: Global, lines: &[Line]) -> Result<Vec<Reach>, AllocError>
     requires { All IsLine lines.now }
     ensures { IfOk result (λ reaches. reaches.items ≡ map reach_of lines.now) }
@@ -59,7 +61,7 @@ fn line_reaches(alloc: Global, lines: &[Line]) -> Result<Vec<Reach>, AllocError>
     Ok(reaches)
 }
 
-/// Adds the reaches of paths with all below them.
+/// Adds the reaches of paths with everything below them.
 fn add_under(alloc: Global, reaches: &mut Vec<Reach>, paths: &[TreePath]) -> Result<(), AllocError>
     requires { All (λ path. has_staging path ≡ false) paths.now }
     ensures { OnOk result (reaches.new.items ≡ reaches.old.items ++ map reach_under paths.now) }
@@ -70,7 +72,7 @@ fn add_under(alloc: Global, reaches: &mut Vec<Reach>, paths: &[TreePath]) -> Res
     Ok(())
 }
 
-/// The reaches of the lines, then of what they copy, then of the paths from which lines are read.
+/// Returns the reaches of the lines, then of the paths that they copy, then of the input paths.
 pub(crate) fn reaches_of(alloc: Global, lines: &[Line]) -> Result<Vec<Reach>, AllocError>
     requires { AllByRecursion IsLine lines.now }
     ensures { IfOk result (λ reaches. reaches.items ≡ reaches_of lines.now) }

@@ -1,4 +1,4 @@
-//! What is asked of a line besides where it stands.
+//! The properties of a line that hazards depend on, besides its path.
 ghost use Rattle.std.specs.Prelude.{◌≡◌, IfOk};
 ghost use Rattle.std.specs.List.{list_any};
 ghost use Rattle.pv_walk.specs.Reasons.{is_adjusting, is_append, is_base, gives_base};
@@ -14,22 +14,22 @@ use pv_table::{
 use pv_walk::{Change, Operation};
 use std::alloc::{AllocError, Global};
 
-/// What is asked of a line besides where it stands.
+/// The properties of a line that hazards depend on, besides its path.
 #[derive(Clone, Copy)]
 pub(crate) struct Traits {
     /// It appends bytes.
     pub(crate) appends: bool,
-    /// It has a masked mode.
+    /// It has a masked mode (`~`).
     pub(crate) masked: bool,
-    /// It sets base entries of an ACL.
+    /// It sets base entries of an ACL (acl(5)).
     pub(crate) base: bool,
     /// It may change what is read from a path that it governs.
     pub(crate) changes: bool,
-    /// It copies something.
+    /// It copies a path.
     pub(crate) copies: bool,
 }
 
-/// Whether an operation appends bytes.
+/// Returns whether an operation appends bytes.
 fn is_append(operation: &Operation) -> bool
     ensures { result ≡ is_adjusting is_append operation.now }
 {
@@ -39,21 +39,21 @@ fn is_append(operation: &Operation) -> bool
     }
 }
 
-/// Whether an entry is that of the owner, the owning group or all others.
+/// Returns whether an entry of an ACL is that of the owner, the owning group or all others.
 fn is_base(entry: &Entry) -> bool
     ensures { result ≡ is_base entry.now }
 {
     matches!(entry, Entry::Owner(_) | Entry::Group(_) | Entry::Other(_))
 }
 
-/// Whether a line of an ACL has a base entry in its access part.
+/// Returns whether the entries that a line gives have a base entry in the access part.
 fn has_base(line: &AclLine) -> bool
     ensures { result ≡ list_any is_base line.now.access }
 {
     line.access.as_slice().iter().any(|entry| is_base(entry))
 }
 
-/// Whether an operation sets base entries of an ACL.
+/// Returns whether an operation sets base entries of an ACL.
 fn gives_base(operation: &Operation) -> bool
     ensures { result ≡ is_adjusting gives_base operation.now }
 {
@@ -66,21 +66,21 @@ fn gives_base(operation: &Operation) -> bool
     }
 }
 
-/// Whether some operation appends bytes.
+/// Returns whether some operation appends bytes.
 fn appends(operations: &[Operation]) -> bool
     ensures { result ≡ list_any (is_adjusting is_append) operations.now }
 {
     operations.iter().any(|operation| is_append(operation))
 }
 
-/// Whether some operation sets base entries of an ACL.
+/// Returns whether some operation sets base entries of an ACL.
 fn sets_base(operations: &[Operation]) -> bool
     ensures { result ≡ list_any (is_adjusting gives_base) operations.now }
 {
     operations.iter().any(|operation| gives_base(operation))
 }
 
-/// Whether a line has a masked mode.
+/// Returns whether a line has a masked mode.
 fn has_masked_mode(line: &Line) -> bool
     ensures { result ≡ has_masked_mode line.now }
 {
@@ -90,21 +90,21 @@ fn has_masked_mode(line: &Line) -> bool
     }
 }
 
-/// Whether a line takes away what it names.
+/// Returns whether a line removes what it names.
 fn takes_named(taking: Taking) -> bool
     ensures { result ≡ takes_named taking }
 {
     matches!(taking, Taking::Itself | Taking::Whole)
 }
 
-/// Whether a line may change what is read from a path that it governs.
+/// Returns whether a line may change what is read from a path that it governs.
 fn changes_content(line: &Line) -> bool
     ensures { result ≡ changes_content line.now }
 {
     is_creating(line) || is_writing(line) || takes_named(taking_of(line)) || line.age.is_some()
 }
 
-/// What is asked of a line besides where it stands.
+/// Returns the properties of a line.
 pub(crate) fn traits_of(alloc: Global, line: &Line) -> Result<Traits, AllocError>
     ensures { IfOk result (λ traits. traits ≡ traits_of line.now) }
 {
@@ -118,7 +118,7 @@ pub(crate) fn traits_of(alloc: Global, line: &Line) -> Result<Traits, AllocError
     })
 }
 
-/// Whether what is done at a path reaches all below it.
+/// Returns whether what is done at a path reaches everything below it.
 fn is_deep(action: &Action) -> bool
     ensures { result ≡ is_deep action.now }
 {
@@ -130,14 +130,14 @@ fn is_deep(action: &Action) -> bool
     }
 }
 
-/// Whether what is taken at a path is taken with all or with what is below it.
+/// Returns whether what is removed at a path is removed together with, or only in, what is below it.
 fn takes_below(taking: Taking) -> bool
     ensures { result ≡ takes_below taking }
 {
     matches!(taking, Taking::Whole | Taking::Contents)
 }
 
-/// Whether a line reaches what lies below the paths that it names (tmpfiles.d(5)).
+/// Returns whether a line reaches everything below the paths that it names (tmpfiles.d(5)).
 pub(crate) fn reaches_below(alloc: Global, line: &Line) -> Result<bool, AllocError>
     ensures { IfOk result (λ below. below ≡ reaches_below line.now) }
 {

@@ -1,8 +1,8 @@
-//! The walk over heads in order, which asks only about those of which one begins the other.
+//! The walk over heads in their order, which asks only about heads of which one is a prefix of the other.
 ghost use Rattle.std.specs.Prelude.{◌≡◌, ◌≢◌, ◌↔◌, ℕ, ◌+◌, ◌<◌, ◌≤◌, ◌^◌, List, [], ◌∷◌, ◌++◌, true, false, length, slice_index_or, take, filter, All, AllPairs, Contains, Option, Some, None, IfOk, OnOk, is_ok};
 ghost use Rattle.pv_path.specs.Paths.{Path, is_prefix};
 ghost use Rattle.pv_overlap.specs.declared.pair.Pair.{Pair as PairValue};
-ghost use Rattle.pv_overlap.specs.Answers.{ComesBefore, IsAnswered, IsTold, SameAnswers};
+ghost use Rattle.pv_overlap.specs.Answers.{ComesBefore, IsAnswered, IsReported, SameAnswers};
 ghost use Rattle.pv_overlap.specs.Heads.{related};
 ghost use Rattle.pv_overlap.specs.Questions.{WasAsked};
 ghost use Rattle.pv_overlap.specs.Walk.{Grown, HasAnswer, IsHeadOf, IsOrderOf, IsSound, found_at, head_at, question_of, questions_at};
@@ -14,17 +14,19 @@ use std::alloc::{AllocError, Global};
 use std::cmp::Ordering;
 use std::collections::BTreeMap;
 
-/// A head and its number.
+/// A head and its index, counted from 0.
 #[derive(Drop, PartialEq, Eq, PartialOrd, Ord)]
 pub(crate) struct Head {
+    /// The path of the head.
     pub(crate) path: TreePath,
+    /// Its index in the list of heads.
     pub(crate) index: u32,
 }
 
-/// The paths that were found, by the numbers of two heads.
+/// The paths that were found, by the indices of two heads.
 type Found = BTreeMap<(u32, u32), TreePath>;
 
-/// The heads in order, each with its number.
+/// Returns the heads in their order, each with its index.
 fn in_order(alloc: Global, heads: &[TreePath]) -> Result<Vec<Head>, AllocError>
     requires { length heads.now < 2 ^ 32 }
     ensures { IfOk result (λ order. IsOrderOf heads.now order.items) }
@@ -40,7 +42,7 @@ fn in_order(alloc: Global, heads: &[TreePath]) -> Result<Vec<Head>, AllocError>
     Ok(order)
 }
 
-/// Asks for the path of two heads, by their numbers, and keeps it.
+/// Asks for the path of two heads, by their indices, and keeps it.
 fn note<A: Asker>(
     alloc: Global,
     asker: &mut A,
@@ -64,7 +66,7 @@ fn note<A: Asker>(
     Ok(())
 }
 
-/// Asks for the path of two heads of which the first begins the second, and keeps it.
+/// Asks for the path of two heads of which the first is a prefix of the second, and keeps it.
 fn ask_about<A: Asker>(
     alloc: Global,
     asker: &mut A,
@@ -86,12 +88,12 @@ fn ask_about<A: Asker>(
     match a.index.cmp(&b.index) {
         Ordering::Less => note(alloc, asker, a.index, b.index, found),
         Ordering::Greater => note(alloc, asker, b.index, a.index, found),
-        // No two heads have one number.
+        // No two heads have the same index.
         Ordering::Equal => Ok(()),
     }
 }
 
-/// The open heads, by their places, that begin the head at a place.
+/// Returns those open heads that are a prefix of the head at an index. All are given by their indices in the order.
 fn still_open(
     alloc: Global,
     order: &[Head],
@@ -111,7 +113,7 @@ fn still_open(
     Ok(kept)
 }
 
-/// Asks for the paths of a head and those that begin it, and keeps them.
+/// Asks for the paths of a head and those that are a prefix of it, and keeps them.
 fn ask_open<A: Asker>(
     alloc: Global,
     asker: &mut A,
@@ -138,7 +140,7 @@ fn ask_open<A: Asker>(
     Ok(())
 }
 
-/// The pairs that were found, in order.
+/// Returns the pairs that were found, in their order.
 fn listed(alloc: Global, found: Found) -> Result<PairList, AllocError>
     ensures exact { IfOk result (λ pairs. (pair : PairValue) → Contains pairs pair ↔ (found_at found pair.first pair.second ≡ Some pair.path)) }
     ensures ordered { IfOk result (AllPairs ComesBefore) }
@@ -154,9 +156,18 @@ fn listed(alloc: Global, found: Found) -> Result<PairList, AllocError>
     Ok(pairs)
 }
 
-/// The pairs of heads for which the asker has a path, in the order of their numbers. It asks only about heads one of
-/// which is a prefix of the other. It finds these by a walk over the heads in order, and keeps those open that are a
-/// prefix of the next head.
+/// Returns the pairs of heads for which the asker answers a path, in the order of their indices.
+///
+/// - `heads` must be those of the asker, and fewer than 2^32.
+/// - `asker` is asked only about two heads of which one is a prefix of the other, and about no pair twice. For two
+///   heads that are not related so, the asker must allow the answer `None`.
+///
+/// If the answer is `Ok`, the asker was asked about all such pairs. Each pair in the list has a path that is an allowed
+/// answer of the asker. For two heads that are not in the list, `None` is an allowed answer. The only error is
+/// `AllocError`.
+///
+/// The heads are walked in the order of paths. At each head, the call keeps those earlier heads that are a prefix of
+/// it, and asks about these alone.
 pub fn pairs_by<A: Asker>(
     alloc: Global,
     heads: &PathList,
@@ -166,7 +177,7 @@ pub fn pairs_by<A: Asker>(
     requires few { length heads.now < 2 ^ 32 }
     requires unrelated { (i j : ℕ) → i < j → j < length heads.now → related (slice_index_or heads.now i []) (slice_index_or heads.now j []) ≡ false → A.answers asker.old i j None }
     ensures listed { IfOk result (λ pairs. (pair : PairValue) → Contains pairs pair → IsAnswered (A.answers asker.old) (length heads.now) pair) }
-    ensures all { IfOk result (λ pairs. (i j : ℕ) → i < j → j < length heads.now → IsTold (A.answers asker.old) pairs i j) }
+    ensures all { IfOk result (λ pairs. (i j : ℕ) → i < j → j < length heads.now → IsReported (A.answers asker.old) pairs i j) }
     ensures ordered { IfOk result (AllPairs ComesBefore) }
     ensures asked { WasAsked (A.asked asker.old asker.new) heads.now (is_ok result) }
     ensures heads { A.heads asker.new ≡ A.heads asker.old }

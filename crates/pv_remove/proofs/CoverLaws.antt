@@ -35,8 +35,6 @@ use Rattle.pv_remove.specs.Covering.{takes}
 use Rattle.pv_path.proofs.Tests.{same_tests}
 use Rattle.pv_table.proofs.GoingLaws.{in_range}
 
--- ---- answers
-
 -- ---- lists
 
 -- what holds of all of a list holds at each place
@@ -131,17 +129,11 @@ take_rest_of (suc k) [] le = absurd (omega (arith, le))
 take_rest_of (suc k) (n ∷ q) le = let rest = take_rest_of k q (omega (arith, le)) in (rest.0, ap (λ p. n ∷ p) rest.1, omega (arith, rest.2))
 
 module _ (files : Files) (tree : IsTree files) (line : Line) (q : Path) where
-  unrefused : Path → Bool
-  unrefused p = is_none (refused_place line (places files) p)
-
   pub key_there : (p : Path) → is_some (places files p) ≡ true → is_one_of (fin.keys files) p ≡ true
   key_there p there = sym (one_of-tied (fin.keys files) p) ∙ sym (fin.contains_key-keys files p) ∙ there
 
   directory_is : (p : Path) → kind_of (places files p) ≡ Some Directory → is_directory_at (places files) p ≡ true
   directory_is p e = ap (λ k. option_map_or is_directory k false) e
-
-  off : (a b : Bool) → (a && false) ≡ (b && false)
-  off a b = and-false a ∙ sym (and-false b)
 
   none_taken : (ps : List Path) → list_any (λ p. is_none (refused_place line (places files) p) && false) ps ≡ false
   none_taken [] = refl
@@ -220,10 +212,6 @@ module _ (files : Files) (tree : IsTree files) (line : Line) (q : Path) where
       by taking.Whole e = rw e whole
       by taking.Contents e = rw e contents
       by taking.Nothing e = rw e (none_taken (filter (names line) (fin.keys files)) ∙ sym (and-false (is_some (places files q))))
-
-  -- a line that takes nothing covers nothing
-  pub nothing_covered : taking_of line ≡ taking.Nothing → (is_some (places files q) && covers line (places files) q) ≡ false
-  nothing_covered e = rw e (and-false (is_some (places files q)))
 
 -- ---- sizes
 

@@ -1,6 +1,6 @@
 -- Taking away what lines name, or what lines with `$` name, leaves presence, kind and payload at each path from which lines
 -- are read, where none of the lines may change what is read there.
-use Rattle.std.specs.Prelude.{◌≡◌, ℕ, ◌+◌, ◌-◌, ◌==◌, Bool, true, false, not, ◌&&◌, ◌||◌, List, length, take, drop, Some, is_none, is_some, if◌then◌else◌}
+use Rattle.std.specs.Prelude.{◌≡◌, ℕ, ◌+◌, ◌-◌, ◌==◌, Bool, true, false, not, ◌&&◌, ◌||◌, List, length, take, Some, is_none, is_some, if◌then◌else◌}
 use Rattle.std.proofs.Common.{refl, sym, ap, ◌∙◌, arith}
 use Rattle.std.proofs.Math.Seq.{take-append_seam}
 use Rattle.std.proofs.lemmas.Bool.{eqb-true, or_right, and_parts}
@@ -15,9 +15,7 @@ use Rattle.pv_lines.specs.Lines.{IsLine, IsLinePath}
 use Rattle.pv_lines.specs.Types.{type_of}
 use Rattle.pv_path.specs.Paths.{has_names, Path, is_prefix}
 use Rattle.pv_path.proofs.PathLaws.{is_prefix-refl, prefix_parts, same_path-refl}
-use Rattle.pv_steps.specs.declared.step.Step.{Step}
 use Rattle.pv_steps.specs.Content.{content_of}
-use Rattle.pv_steps.specs.Runs.{after_all, Ran}
 use Rattle.pv_steps.specs.Trees.{IsTree, Files, Places, places}
 use Rattle.pv_walk.specs.Edits.{Pruned}
 use Rattle.pv_walk.proofs.WholeLaws.{goes_parts, all_at-each}
@@ -31,7 +29,7 @@ use Rattle.pv_table.specs.Repeatable.{HasReason, IsAt, changes_content, takes_na
 use Rattle.pv_layers.specs.Places.{is_input}
 use Rattle.pv_remove.proofs.CoverLaws.{at_place, from_range}
 use Rattle.pv_path.proofs.Tests.{true_not_false}
-use Rattle.pv_table.proofs.GoingInput.{MayChange, governs_below, kept_content, kept_on_run, named_governs, none_passes}
+use Rattle.pv_table.proofs.GoingInput.{MayChange, governs_below, kept_content, named_governs, none_passes}
 
 -- ---- what is covered
 
@@ -172,12 +170,3 @@ module _ (lines : List Line) (are : AllByRecursion IsLine lines) (free : (i : �
 
   pub purge_on_way : (u : Files) → Pruned (is_purged lines t) t u → (q : Path) → is_input q ≡ true → content_of (places u q) ≡ content_of (places t q)
   purge_on_way u way q input = kept_content (is_purged lines t) t u q way (purged_none q input)
-
-  -- so after each number of the steps of a run
-  pub removal_on_run : (Q : Step → Type 0) (now : ℕ) (h : List Step) (u : Files) (k : List Step) → Ran (Pruned (is_gone lines t) t) Q now t h u k
-      → (n : ℕ) (q : Path) → is_input q ≡ true → content_of (places (after_all t (take n (drop (length h) k)) now) q) ≡ content_of (places t q)
-  removal_on_run Q now h u k run n q input = kept_on_run (is_gone lines t) t Q now h u k run n q (gone_none q input)
-
-  pub purge_on_run : (Q : Step → Type 0) (now : ℕ) (h : List Step) (u : Files) (k : List Step) → Ran (Pruned (is_purged lines t) t) Q now t h u k
-      → (n : ℕ) (q : Path) → is_input q ≡ true → content_of (places (after_all t (take n (drop (length h) k)) now) q) ≡ content_of (places t q)
-  purge_on_run Q now h u k run n q input = kept_on_run (is_purged lines t) t Q now h u k run n q (purged_none q input)

@@ -30,14 +30,6 @@ pub covered_gone : (lines : List Line) (t : Files) (covered : List Path) → ((q
     → (q : Path) → goes_whole (is_one_of covered) t q ≡ is_gone lines t q
 covered_gone lines t covered are q = goes_whole-same (is_one_of covered) (λ r. list_any (λ line. covers line (places t) r) lines) t (λ r there. are r ∙ ap (λ b. b && list_any (λ line. covers line (places t) r) lines) there) q
 
-pub covered_there : (lines : List Line) (t : Files) (covered : List Path) → ((q : Path) → is_one_of covered q ≡ (is_some (places t q) && list_any (λ line. covers line (places t) q) lines))
-    → (q : Path) → is_one_of covered q ≡ true → is_some (places t q) ≡ true
-covered_there lines t covered are q h = by (is_some (places t q)) (list_any (λ line. covers line (places t) q) lines) (sym (are q) ∙ h)
-  where
-    by : (a b : Bool) → (a && b) ≡ true → a ≡ true
-    by true b h = refl
-    by false b h = absurd (let wrong : false ≡ true = h in cc)
-
 -- crash safety of the remove phase
 pub removal_recovered : (lines : List Line) (Q : Step → Type 0) (now : ℕ) (t : Files) (h : List Step) (u : Files) (k : List Step) → now < 2 ^ 64 → IsTree t
     → Ran (Pruned (is_gone lines t) t) Q now t h u k → Recovers (removed lines) now t (drop (length h) k)
@@ -88,14 +80,6 @@ pub purged_whole : (lines : List Line) (t : Files) (listed : List Path) → ((q 
 purged_whole lines t listed are q =
     goes_whole-same (is_one_of listed) (λ r. list_any (λ line. purges line (places t) r) lines) t (λ r there. are r ∙ ap (λ b. b && list_any (λ line. purges line (places t) r) lines) there) q
     ∙ purges_whole lines t q
-
-pub purged_there : (lines : List Line) (t : Files) (listed : List Path) → ((q : Path) → is_one_of listed q ≡ (is_some (places t q) && list_any (λ line. purges line (places t) q) lines))
-    → (q : Path) → is_one_of listed q ≡ true → is_some (places t q) ≡ true
-purged_there lines t listed are q h = by (is_some (places t q)) (list_any (λ line. purges line (places t) q) lines) (sym (are q) ∙ h)
-  where
-    by : (a b : Bool) → (a && b) ≡ true → a ≡ true
-    by true b h = refl
-    by false b h = absurd (let wrong : false ≡ true = h in cc)
 
 pub purged_together : (keys : List Path) (lines : List Line) (t : Files) → ((q : Path) → is_one_of keys q ≡ is_purged lines t q) → (q : Path) → is_one_of keys q ≡ goes_whole (is_one_of keys) t q
 purged_together keys lines t members = goes_together keys (λ r. list_any (λ line. purges line (places t) r) lines) t (λ q. members q ∙ sym (purges_whole lines t q))

@@ -18,7 +18,7 @@ use Rattle.pv_steps.specs.Trees.{Files, Places, places, kind_of, IsTree}
 use Rattle.pv_steps.proofs.RunLaws.{along_prefix, along_trees}
 use Rattle.pv_steps.proofs.TreeLaws.{present_above}
 use Rattle.pv_walk.specs.Edits.{Pruned}
-use Rattle.pv_walk.specs.Removal.{loses_child, without}
+use Rattle.pv_walk.specs.Removal.{loses_child}
 use Rattle.pv_walk.proofs.WholeLaws.{goes_parts, goes_from, all_at-each, each-all_at}
 use Rattle.pv_table.specs.declared.taking.Taking.{Taking}
 use Rattle.pv_table.specs.declared.taking.Taking.TheVariants as taking

@@ -1,5 +1,5 @@
--- What a phase that takes away does, says and answers, and that one which was cut short recovers by the next
--- (tmpfiles.d(5), r, R and D; systemd-tmpfiles(8), --purge).
+-- What removing and purging do, say and answer, and that a stopped one recovers (tmpfiles.d(5), r, R and D;
+-- systemd-tmpfiles(8), --remove and --purge). Here `goes` tells which paths are removed.
 use Rattle.std.specs.Prelude.{◌≡◌, ℕ, Bool, List, ◌++◌, length, map, take, Result, IfOk, IsErrOf, OnOk}
 use Rattle.pv_steps.specs.declared.carried.Carried.{Carried}
 use Rattle.pv_steps.specs.Courses.{carried_of}
@@ -20,16 +20,18 @@ use Rattle.pv_table.specs.Removed.{files_without}
 use Rattle.pv_text.specs.GivenMessages.{MessagesPart}
 use Rattle.pv_walk.specs.Removal.{is_one_of, removal_at, DonePart}
 
--- nothing is done, or the first of the steps that take away all paths that go: the deepest first, those of one depth in
--- byte order
+-- Nothing is done, or the first steps of a list that removes all paths that go. Deeper paths come first, and those of
+-- one depth are in byte order.
 pub data TakesInOrder (goes : Path → Bool) (t : Files) (before behind : List Step) : Type 0 where
   nothing : behind ≡ before → TakesInOrder goes t before behind
   first : (paths : List Path) → ((q : Path) → is_one_of paths q ≡ goes q) → AreDeepestFirst paths → DonePart (map (removal_at t) paths) before behind → TakesInOrder goes t before behind
 
--- a phase takes away the paths that go, and then says some texts: where it answers Ok it leaves the tree without these
--- paths, has done one step for each path that goes, has said all the texts, and tells whether something is unfinished;
--- whatever it answers, it has said a prefix of them, or none where a step was refused, and has gone by steps each of
--- which takes away a path that goes, the deepest first, those of one depth in byte order
+-- A phase removes the paths that go, and then gives some messages.
+-- - If the answer is Ok, these paths are gone from the tree, with one step for each. All messages are given, and the
+--   answer says whether something is unfinished.
+-- - Whatever the answer is, the messages given are a prefix of these. If a step was refused, there are none.
+-- - Whatever the answer is, each step removes a path that goes, deeper paths first, and those of one depth in byte
+--   order.
 pub record TakesAway {S : Type 0} (tree : Ghosts S) (goes : Path → Bool) (texts : List (List ℕ)) (unfinished : Bool)
     (now : ℕ) (old new : S) (before behind : List (List ℕ)) (r : Result Carried TreeFault) : Type 0 where
   pub ok : OnOk r (tree.state new ≡ files_without goes (modified now) (tree.state old))
@@ -41,7 +43,7 @@ pub record TakesAway {S : Type 0} (tree : Ghosts S) (goes : Path → Bool) (text
   pub acted : Acted tree (Pruned goes (tree.state old)) (Removes goes) (count_of goes (tree.state old)) now old new r
   pub order : TakesInOrder goes (tree.state old) (tree.steps old) (tree.steps new)
 
--- after each number of these steps a complete run, at whatever moment, leaves what a complete run leaves from the start;
--- timestamps and staging names aside
+-- A run is stopped after any number n of its steps. Then a complete run over the tree at the stop, at any time,
+-- leaves the same tree as one complete run from the start. `Same` leaves out timestamps and staging names.
 abbrev pub Recovers : (ℕ → Files → Files) → ℕ → Files → List Step → Type 0
 Recovers whole now t steps = (n later : ℕ) → Same (whole later (after_all t (take n steps) now)) (whole now t)

@@ -1,4 +1,4 @@
-//! What the lines of a removal cover.
+//! The paths that the lines of a removal cover.
 ghost use Rattle.std.specs.Prelude.{◌≡◌, ◌&&◌, ◌||◌, ◌<◌, ◌^◌, length, is_none, is_some, IfOk, OnOk};
 ghost use Rattle.std.specs.List.{AllByRecursion, list_any};
 ghost use Rattle.pv_lines.specs.Lines.{IsLine};
@@ -15,7 +15,7 @@ use pv_table::{Taking, named_paths, standing_at, taking_of};
 use pv_walk::{at_and_below, below, refusal_of};
 use std::alloc::{AllocError, Global};
 
-/// The present paths that some line covers, in no order.
+/// Returns the present paths that some line covers, in no order.
 pub(crate) fn covered_paths<T: Tree>(
     alloc: Global,
     tree: &T,
@@ -56,7 +56,7 @@ fn add_covered<T: Tree>(
     Ok(())
 }
 
-/// Adds what is taken at a path that a line names, unless the line is refused there.
+/// Adds the paths that a line takes at a path that it names, unless the line is refused there.
 fn add_named<T: Tree>(
     alloc: Global,
     tree: &T,
@@ -75,7 +75,7 @@ fn add_named<T: Tree>(
     }
 }
 
-/// Adds what is taken at a path.
+/// Adds the paths that a line takes at a path.
 fn add_taken<T: Tree>(
     alloc: Global,
     tree: &T,
@@ -91,7 +91,7 @@ fn add_taken<T: Tree>(
     Ok(())
 }
 
-/// What is taken at a path, in no order.
+/// Returns the paths that a line takes at a path, in no order.
 fn taken_paths<T: Tree>(
     alloc: Global,
     tree: &T,
@@ -108,7 +108,7 @@ fn taken_paths<T: Tree>(
     }
 }
 
-/// The owner that an absent last place counts as: the line's user, otherwise root.
+/// Returns the owner that an absent last component counts as: the line's user, otherwise root.
 fn owner_given(line: &Line) -> u32
     ensures { result ≡ owner_given line.now }
 {
@@ -118,7 +118,7 @@ fn owner_given(line: &Line) -> u32
     }
 }
 
-/// The place at which a line is refused at a path, counted by the names that lead to it, and why.
+/// Returns the component at which a line is refused at a path, counted from 0 for the root, and why.
 pub(crate) fn refusal<T: Tree>(
     alloc: Global,
     tree: &T,

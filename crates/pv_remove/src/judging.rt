@@ -1,4 +1,4 @@
-//! What is said of the lines of a removal, and whether each was carried out.
+//! The messages on the lines of a removal, and whether each line was carried out.
 ghost use Rattle.std.specs.Prelude.{◌≡◌, ◌||◌, ◌&&◌, not, ◌++◌, ◌<◌, ◌^◌, [], ◌∷◌, List, length, map, is_some, if◌then◌else◌, IfOk, OnOk};
 ghost use Rattle.std.specs.List.{AllByRecursion, flat_map, list_any};
 ghost use Rattle.pv_lines.specs.Lines.{IsLine};
@@ -20,7 +20,7 @@ use pv_walk::is_among;
 use std::alloc::{AllocError, Global};
 use std::collections::BTreeSet;
 
-/// Says of each line what is to be said, in listing order, and whether something was not carried out.
+/// Adds the messages of the phase in listing order, and returns whether something is left unfinished.
 pub(crate) fn judge<T: Tree>(
     alloc: Global,
     tree: &T,
@@ -40,7 +40,7 @@ pub(crate) fn judge<T: Tree>(
     Ok(unfinished)
 }
 
-/// Says of one line what is to be said, and whether it was not carried out somewhere.
+/// Adds the messages of one line, and returns whether the line is unfinished at some path.
 fn judge_line<T: Tree>(
     alloc: Global,
     tree: &T,
@@ -64,7 +64,7 @@ fn judge_line<T: Tree>(
     Ok(unfinished)
 }
 
-/// The paths at which a line is judged.
+/// Returns the paths at which a line is judged.
 fn judged_paths<T: Tree>(alloc: Global, tree: &T, line: &Line) -> Result<Vec<TreePath>, AllocError>
     ensures { IfOk result (λ paths. paths.items ≡ judged line.now (T.state tree.now)) }
 {
@@ -75,7 +75,7 @@ fn judged_paths<T: Tree>(alloc: Global, tree: &T, line: &Line) -> Result<Vec<Tre
     }
 }
 
-/// The path of a line that names one path.
+/// Returns the path of a line that names one path, as the only one.
 fn own_path(alloc: Global, line: &Line) -> Result<Vec<TreePath>, AllocError>
     ensures { IfOk result (λ paths. paths.items ≡ path_in line.now.path ∷ []) }
 {
@@ -85,7 +85,7 @@ fn own_path(alloc: Global, line: &Line) -> Result<Vec<TreePath>, AllocError>
     Ok(paths)
 }
 
-/// Says of a line at one path what is to be said, and whether it was not carried out there.
+/// Adds the message of a line at one path, if there is one, and returns whether the line is unfinished there.
 fn judge_path<T: Tree>(
     alloc: Global,
     tree: &T,
@@ -110,7 +110,8 @@ fn judge_path<T: Tree>(
     }
 }
 
-/// Says of a line at a path if it is not refused what is to be said, and whether something was kept.
+/// Adds the message of a line at a path at which it is not refused, and returns whether the line keeps a directory
+/// there.
 fn judge_unrefused<T: Tree>(
     alloc: Global,
     tree: &T,
@@ -134,7 +135,7 @@ fn judge_unrefused<T: Tree>(
     }
 }
 
-/// Says that a directory is not empty, where one stands at a path and does not go.
+/// Adds the message that a directory is not empty, if there is one at the path that does not go.
 fn say_kept<T: Tree>(
     alloc: Global,
     tree: &T,
@@ -155,7 +156,7 @@ fn say_kept<T: Tree>(
     Ok(true)
 }
 
-/// `PATH is not empty`.
+/// Returns the text `PATH is not empty`.
 fn not_empty(alloc: Global, path: &TreePath) -> Result<Vec<u8>, AllocError>
     ensures { IfOk result (λ text. text.items ≡ not_empty path.now) }
 {
@@ -164,7 +165,7 @@ fn not_empty(alloc: Global, path: &TreePath) -> Result<Vec<u8>, AllocError>
     Ok(text)
 }
 
-/// Says that an object that is not a directory is left.
+/// Adds the message that an object that is not a directory is left.
 fn say_left_kind<T: Tree>(
     alloc: Global,
     tree: &T,

@@ -1,4 +1,5 @@
-//! The phases that take away: lines r, R and D, and purging.
+//! The phases that remove what lines name. [`remove_run`] is for the lines r, R and D (tmpfiles.d(5)). [`purge_run`] is
+//! for lines with `$` (systemd-tmpfiles(8), `--purge`).
 #![tactic(auto)]
 
 mod covering;

@@ -1,4 +1,4 @@
-//! What a phase that takes away is to do, and how it is done.
+//! The plan of a phase that removes, and how it is carried out.
 ghost use Rattle.std.specs.Prelude.{◌≡◌};
 ghost use Rattle.pv_path.specs.Paths.{Path};
 ghost use Rattle.pv_walk.specs.Removal.{is_one_of};
@@ -12,18 +12,18 @@ use pv_text::{Messages, say_all};
 use std::alloc::Global;
 use std::collections::BTreeSet;
 
-/// What a phase is to take away and to say, as all of it is judged in the tree before the phase.
+/// What a phase is to remove, and its messages. All of it is decided from the tree as it is before the phase.
 #[derive(Drop)]
 pub(crate) struct Plan {
-    /// The paths that go, each with all that stands below it.
+    /// The paths that go. With each of them goes everything below it.
     pub(crate) paths: BTreeSet<TreePath>,
-    /// What is said after the steps.
+    /// The messages that are added after the steps.
     pub(crate) new_messages: Messages,
-    /// Whether something is not carried out.
+    /// Whether something is left unfinished.
     pub(crate) unfinished: bool,
 }
 
-/// Takes away what is to go, and then says what is to be said.
+/// Removes what is to go, and then adds the messages.
 pub(crate) fn apply_plan<T: Tree>(
     alloc: Global,
     tree: &mut T,

@@ -1,4 +1,4 @@
-//! Purging: lines with `$`.
+//! Purging: the removal of what lines with `$` name.
 ghost use Rattle.std.specs.Prelude.{◌≡◌, ◌&&◌, ◌||◌, ◌++◌, map, is_some, IfOk, OnOk};
 ghost use Rattle.std.specs.List.{AllByRecursion, list_any};
 ghost use Rattle.pv_lines.specs.Lines.{IsLine};
@@ -21,9 +21,25 @@ use pv_text::Messages;
 use pv_walk::{at_and_below, whole_of};
 use std::alloc::{AllocError, Global};
 
-/// Removes what lines with `$` name, each with all below it (systemd-tmpfiles(8), --purge). All is judged in the tree
-/// before the phase. The deepest paths go first, those of one depth in byte order. Then it says which of the lines are
-/// refused, in listing order.
+/// Removes the paths of lines with `$`, each with everything below it (systemd-tmpfiles(8), `--purge`).
+///
+/// A line that is refused at its path removes nothing. The root is never removed. All this is decided from the tree as
+/// it is before the phase. Then the deepest paths are removed first, and those of one depth in byte order. A directory
+/// that stays and lost a child gets new timestamps of change and modification.
+///
+/// - `table` has the active lines.
+/// - `now` is the time of the run, in microseconds since 1970-01-01 UTC.
+/// - `messages` gets a message for each refused line whose path is present, after the steps, in the order in which the
+///   lines were read.
+///
+/// The answer is one of these:
+///
+/// - `Ok(Whole)`: no line with `$` and a present path is refused. Otherwise it is `Ok(NotCarriedOut)`.
+/// - `Err(Failed)`: the tree refused a step, and none was done after it. No message was added.
+/// - `Err(Memory)`: out of memory. A prefix of the messages was added, and a prefix of the steps may have been done.
+///
+/// A run may be stopped after any step. A complete run at any time then leaves the same tree as one complete run,
+/// except for timestamps and staging names. There is no premise on the lines.
 pub fn purge_run<T: Tree>(
     alloc: Global,
     tree: &mut T,
@@ -31,7 +47,7 @@ pub fn purge_run<T: Tree>(
     now: u64,
     messages: &mut Messages,
 ) -> Result<Carried, TreeFault>
-    // What it leaves, timestamps included, what it says, how it ends, and by which steps.
+    // The tree that it leaves, timestamps included, its messages, its answer and its steps.
     ensures run { TakesAway T.Tree (is_purged table.now (T.state tree.old)) (purged_messages table.now (T.state tree.old))
         (is_purge_unfinished table.now (T.state tree.old)) now tree.old tree.new messages.old messages.new result }
 
@@ -42,7 +58,7 @@ pub fn purge_run<T: Tree>(
     apply_plan(alloc, tree, plan, now, messages)
 }
 
-/// What lines with `$` take away, and what is said of them.
+/// Plans the phase: which paths the lines with `$` remove, and the messages.
 fn purge_plan<T: Tree>(alloc: Global, tree: &T, table: &Table) -> Result<Plan, AllocError>
     ensures gone { IfOk result (λ plan. (q : Path) → is_one_of plan.paths.keys q ≡ is_purged table.now (T.state tree.now) q) }
     ensures new_messages { IfOk result (λ plan. plan.new_messages ≡ purged_messages table.now (T.state tree.now)) }
@@ -61,7 +77,7 @@ fn purge_plan<T: Tree>(alloc: Global, tree: &T, table: &Table) -> Result<Plan, A
     })
 }
 
-/// The present paths that some line purges, in no order.
+/// Returns the present paths that some line purges, in no order.
 fn purged_paths<T: Tree>(
     alloc: Global,
     tree: &T,
@@ -79,7 +95,7 @@ fn purged_paths<T: Tree>(
     Ok(purged)
 }
 
-/// The present paths that a line purges.
+/// Returns the present paths that a line purges.
 fn paths_of<T: Tree>(alloc: Global, tree: &T, line: &Line) -> Result<Vec<TreePath>, AllocError>
     requires line { IsLine line.now }
     ensures { IfOk result (λ paths. (q : Path) → is_one_of paths.items q
@@ -95,7 +111,7 @@ fn paths_of<T: Tree>(alloc: Global, tree: &T, line: &Line) -> Result<Vec<TreePat
     }
 }
 
-/// Says which lines are refused, in listing order, and whether one is.
+/// Adds the messages of refused lines in the order in which they were read, and returns whether a line is refused.
 fn judge_purge<T: Tree>(
     alloc: Global,
     tree: &T,
@@ -113,7 +129,7 @@ fn judge_purge<T: Tree>(
     Ok(unfinished)
 }
 
-/// Says of one line whether it is refused.
+/// Adds the message of one line if it is refused, and returns whether it is.
 fn judge_purge_line<T: Tree>(
     alloc: Global,
     tree: &T,
@@ -134,7 +150,8 @@ fn judge_purge_line<T: Tree>(
     }
 }
 
-/// The place at which a line with `$` is refused at its path, where something stands there.
+/// Returns the component at which a line with `$` is refused at its path, and why. The answer is `None` if the path is
+/// absent.
 fn purge_refusal<T: Tree>(
     alloc: Global,
     tree: &T,

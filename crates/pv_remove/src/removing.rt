@@ -16,8 +16,31 @@ use pv_text::Messages;
 use pv_walk::whole_of;
 use std::alloc::{AllocError, Global};
 
-/// Removes what lines r, R and D name (tmpfiles.d(5)). All is judged in the tree before the phase. The deepest paths go
-/// first, those of one depth in byte order. Then it says what is to be said of each line, in listing order.
+/// Removes what the lines r, R and D of a table name (tmpfiles.d(5), systemd-tmpfiles(8), `--remove`).
+///
+/// `R` removes each path that it names, with everything below it. `D` removes everything below a directory that it
+/// names. `r` removes each path that it names, but a directory only if everything in it is removed too. A line that is
+/// refused at a path removes nothing there. The root is never removed.
+///
+/// All this is decided from the tree as it is before the phase. Then the deepest paths are removed first, and those of
+/// one depth in byte order. A directory that stays and lost a child gets new timestamps of change and modification.
+///
+/// - `table` has the active lines.
+/// - `now` is the time of the run, in microseconds since 1970-01-01 UTC.
+/// - `messages` gets the messages of the phase after its steps, in the order in which the lines were read. They say at
+///   which paths a line is refused, and what is kept.
+///
+/// The answer is one of these:
+///
+/// - `Ok(Whole)`: nothing is left unfinished. `Ok(NotCarriedOut)`: a line is refused at a path, or `r` leaves a
+///   directory that is not empty.
+/// - `Err(Failed)`: the tree refused a step, and none was done after it. No message was added.
+/// - `Err(Memory)`: out of memory. A prefix of the messages was added, and a prefix of the steps may have been done.
+///
+/// A run may be stopped after any step. A complete run at any time then leaves the same tree as one complete run,
+/// except for timestamps and staging names. There is no premise on the lines.
+///
+/// For example, the line `R /run/app` removes `/run/app` with everything below it.
 pub fn remove_run<T: Tree>(
     alloc: Global,
     tree: &mut T,
@@ -25,7 +48,7 @@ pub fn remove_run<T: Tree>(
     now: u64,
     messages: &mut Messages,
 ) -> Result<Carried, TreeFault>
-    // What it leaves, timestamps included, what it says, how it ends, and by which steps.
+    // The tree that it leaves, timestamps included, its messages, its answer and its steps.
     ensures run { TakesAway T.Tree (is_gone table.now (T.state tree.old)) (removed_messages table.now (T.state tree.old))
         (is_unfinished table.now (T.state tree.old)) now tree.old tree.new messages.old messages.new result }
 
@@ -36,7 +59,7 @@ pub fn remove_run<T: Tree>(
     apply_plan(alloc, tree, plan, now, messages)
 }
 
-/// What lines r, R and D take away, and what is said of them.
+/// Plans the phase: which paths the lines r, R and D remove, and the messages.
 fn removal_plan<T: Tree>(alloc: Global, tree: &T, table: &Table) -> Result<Plan, AllocError>
     ensures gone { IfOk result (λ plan. (q : Path) → is_one_of plan.paths.keys q ≡ is_gone table.now (T.state tree.now) q) }
     ensures new_messages { IfOk result (λ plan. plan.new_messages ≡ removed_messages table.now (T.state tree.now)) }

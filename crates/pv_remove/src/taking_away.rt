@@ -1,4 +1,4 @@
-//! Some paths of a tree taken away, each with all that stands below it.
+//! The removal of some paths of a tree, each with everything below it.
 ghost use Rattle.std.specs.Prelude.{◌≡◌, OnOk};
 ghost use Rattle.pv_path.specs.Paths.{Path};
 ghost use Rattle.pv_steps.specs.Acting.{Acted};
@@ -16,8 +16,8 @@ use pv_walk::{deepest_last, remove_all};
 use std::alloc::Global;
 use std::collections::BTreeSet;
 
-/// Takes away paths that go whole, the deepest first and those of one depth in byte order. A directory that stays and
-/// lost a child has changed.
+/// Removes these paths, the deepest first and those of one depth in byte order. Everything below a removed path is
+/// removed too. A directory that stays and lost a child gets new timestamps.
 pub(crate) fn take_away<T: Tree>(
     alloc: Global,
     tree: &mut T,

@@ -40,9 +40,6 @@ parted {A} xs x is some = first_and_rest xs x some ∙ ap (λ (y : A). y ∷ oth
 pub fewer : {A : Type 0} (xs : List A) (x : A) → xs ≡ x ∷ others xs → length (others xs) < length xs
 fewer xs x e = let l : length xs ≡ length (x ∷ others xs) = ap length e in omega (arith, l)
 
-pub part : {A : Type 0} (P : List A → Type 0) (xs : List A) (x : A) → xs ≡ x ∷ others xs → P xs → P (x ∷ others xs)
-part P xs x e h = subst P e h
-
 -- ---- publishing
 
 module _ {S : Type 0} (tree : Ghosts S) (now : ℕ) (edit : Edit) (rest : List Edit) {a b : S} where

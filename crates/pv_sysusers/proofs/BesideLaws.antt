@@ -11,7 +11,8 @@ use Rattle.pv_walk.specs.Preparing.{with_parent}
 use Rattle.pv_walk.specs.Removal.{is_one_of}
 use Rattle.pv_walk.proofs.RemovalLaws.{no_same}
 use Rattle.pv_sysusers.specs.declared.edit.Edit.{Edit}
-use Rattle.pv_sysusers.specs.Edits.{edited, etc, with_edit}
+use Rattle.pv_sysusers.specs.Edits.{edited, with_edit}
+use Rattle.pv_layers.specs.Places.{etc}
 use Rattle.pv_sysusers.specs.FileWriting.{AccountWay, IsEditOf, account_paths}
 use Rattle.pv_sysusers.specs.Accounted.{edits_at, edits_by, edits_unless, plan_at, unusable_texts}
 use Rattle.pv_sysusers.proofs.FileWritingLaws.{directory_object_states}

@@ -22,7 +22,7 @@ use Rattle.pv_walk.specs.Preparing.{parent_file}
 use Rattle.pv_walk.specs.declared.new_file.NewKind.TheVariants as new
 use Rattle.pv_walk.specs.Staging.{GivesNew, IsNewFile, new_object}
 use Rattle.pv_walk.proofs.StageLaws.{make_asks, make_holds, staged_room}
-use Rattle.pv_sysusers.specs.Edits.{etc}
+use Rattle.pv_layers.specs.Places.{etc}
 
 pub parent_new : IsNewFile parent_file
 parent_new = record { mode = lit≤ tt; owner = (lit≤ tt, lit≤ tt); target = tt }
@@ -36,9 +36,6 @@ stage_some e = cc
 -- ---- the mode, after the directory is made under its staging name
 
 module _ (now : ℕ) (t u : Files) (is : places u ≡ made now (staging_of etc) (held_object new.Directory now) (places t)) where
-  abbrev plain : Object
-  plain = held_object new.Directory now
-
   there : places u (staging_of etc) ≡ Some (held_object new.Directory now)
   there = ap (λ (p : Places). p (staging_of etc)) is ∙ made-here now (staging_of etc) (places t) stage_some (held_object new.Directory now)
 

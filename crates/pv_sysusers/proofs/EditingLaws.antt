@@ -11,13 +11,12 @@ use Rattle.pv_steps.specs.declared.object.Object.{Object}
 use Rattle.pv_steps.specs.declared.why.Why.{Why}
 use Rattle.pv_steps.specs.Objects.{AclFits, AttrsFit, LettersFit}
 use Rattle.pv_steps.specs.Refusal.{refusal}
-use Rattle.pv_steps.specs.Trees.{Files, Places, places, kind_of, IsKind, IsPresent, IsTreeIn}
+use Rattle.pv_steps.specs.Trees.{Places, kind_of, IsTreeIn}
 use Rattle.pv_walk.specs.SettingMetadata.{IsMetadata}
 use Rattle.pv_walk.specs.Nodes.{object_state_of}
-use Rattle.pv_walk.proofs.PreparingSweep.{unrefused_pass}
 use Rattle.pv_sysusers.specs.declared.planned.Texts.{Texts}
 use Rattle.pv_sysusers.specs.declared.edit.Edit.{Edit}
-use Rattle.pv_sysusers.specs.Edits.{AreEdits, IsBeside, IsEdit, etc}
+use Rattle.pv_sysusers.specs.Edits.{AreEdits, IsBeside, IsEdit}
 use Rattle.pv_layers.specs.Places.{group_path, passwd_path}
 use Rattle.pv_sysusers.specs.FileWriting.{IsEditOf, account_paths, gshadow_path, shadow_path}
 use Rattle.pv_sysusers.specs.Accounted.{IsUsable, metadata_at, edit_at, edit_to, edits_by, edits_to, plain_metadata, text_at, unusable_by, unusable_text, unusable_texts}
@@ -58,10 +57,6 @@ all_well t e =
 
 pub all_usable : (t : Places) → unusable_texts t ≡ [] → AllByRecursion (IsUsable t) account_paths
 all_usable t e = let w = all_well t e in (w.0.usable, (w.1.0.usable, (w.1.1.0.usable, (w.1.1.1.0.usable, tt))))
-
--- and their directory can be passed
-pub can_pass : (t : Files) → unusable_texts (places t) ≡ [] → IsPresent t etc → IsKind Directory t etc
-can_pass t e = unrefused_pass group_path 0 t (all_well (places t) e).0.unrefused etc (refl, λ h. cc)
 
 -- ---- what a file is to have
 

@@ -26,7 +26,8 @@ use Rattle.pv_walk.specs.Putting.{IsPutting, Putting}
 use Rattle.pv_walk.specs.Removal.{is_one_of}
 use Rattle.pv_walk.proofs.PuttingLaws.{made-none, none_below}
 use Rattle.pv_sysusers.specs.declared.edit.Edit.{Edit}
-use Rattle.pv_sysusers.specs.Edits.{AreEdits, IsBeside, IsEdit, IsFree, IsOfSome, IsStaged, Published, PublishesEdit, StagesEdit, edited, etc, most_edited, with_edit, with_published, with_staged}
+use Rattle.pv_sysusers.specs.Edits.{AreEdits, IsBeside, IsEdit, IsFree, IsOfSome, IsStaged, Published, PublishesEdit, StagesEdit, edited, most_edited, with_edit, with_published, with_staged}
+use Rattle.pv_layers.specs.Places.{etc}
 use Rattle.pv_sysusers.specs.FileWriting.{AccountWay, IsAccountStep, IsEditOf, IsStagedWhole, PutsDirectory, account_paths, directory_steps, most_directory, most_put, swept_names, with_directory}
 use Rattle.pv_sysusers.proofs.MovingLaws.{not_parent}
 use Rattle.pv_sysusers.proofs.StagingLaws.{HasRoom, object_states_all_staged, object_states_edits, published_first, stage_some, stage_up}
@@ -58,14 +59,6 @@ module _ (now : ℕ) (t : Places) where
       by : (b : Bool) → cond b t put q ≡ None
       by true = none
       by false = made-none now etc (new_object parent_file now) t q d none
-
-  pub directory_kind : (kind_of (t etc) ≡ Some Directory) ⊎ (is_some (t etc) ≡ false) → kind_of (with_parent now t etc etc) ≡ Some Directory
-  directory_kind (inl e) = by (t etc) refl e
-    where
-      by : (o : Option Object) → t etc ≡ o → kind_of (t etc) ≡ Some Directory → kind_of (cond (is_some (t etc)) t put etc) ≡ Some Directory
-      by None is e = absurd (let no : None ≡ Some Directory = sym (ap kind_of is) ∙ e in cc)
-      by (Some x) is e = ap (λ o. kind_of (cond (is_some o) t put etc)) is ∙ e
-  directory_kind (inr e) = ap (λ b. kind_of (cond b t put etc)) e ∙ ap kind_of (made-here now etc t (λ h. cc) (new_object parent_file now))
 
 pub parent_object_states : (now later : ℕ) (t u : Places) → ((q : Path) → has_staging q ≡ false → object_states t q ≡ object_states u q)
     → (q : Path) → has_staging q ≡ false → object_states (with_parent now t etc) q ≡ object_states (with_parent later u etc) q

@@ -36,28 +36,6 @@ pub put_seen : {A B : Type 0} (f : A → B) (b : Bool) (v : A) (o : Option A) �
 put_seen f true v o = refl
 put_seen f false v o = refl
 
--- a line that fixes nothing
-pub fixes_nothing : (need : Need) (before : List ℕ → Option (ℕ × Place)) → need.number ≡ None → (name : List ℕ) → before name ≡ option_or (before name) (fixed_for (need ∷ []) name)
-fixes_nothing need before none name = rw none (by_test (bytes_eq need.name name))
-  where
-    by_test : (b : Bool) → before name ≡ option_or (before name) (cond b None None)
-    by_test true = sym (option_or-none (before name))
-    by_test false = sym (option_or-none (before name))
-
--- a line whose name is fixed already
-pub fixes_again : (need : Need) (before : List ℕ → Option (ℕ × Place)) → is_some (before need.name) ≡ true → (name : List ℕ) → before name ≡ option_or (before name) (fixed_for (need ∷ []) name)
-fixes_again need before there name = by_test (bytes_eq need.name name) refl
-  where
-    some_or : (o p : Option (ℕ × Place)) → is_some o ≡ true → o ≡ option_or o p
-    some_or (Some x) p h = refl
-    some_or None p h = cc
-
-    by_test : (b : Bool) → bytes_eq need.name name ≡ b → before name ≡ option_or (before name) (fixed_for (need ∷ []) name)
-    by_test true e =
-        let same : need.name ≡ name = (bytes_eq-Decides need.name name).0 e in
-        some_or (before name) (fixed_for (need ∷ []) name) (ap (λ (n : List ℕ). is_some (before n)) (sym same) ∙ there)
-    by_test false e = rw e (sym (option_or-none (before name)))
-
 -- a line that is the first to fix a number
 pub fixes_first : (need : Need) (n : ℕ) (before after : List ℕ → Option (ℕ × Place)) → need.number ≡ Some n → is_some (before need.name) ≡ false
     → ((name : List ℕ) → after name ≡ cond (bytes_eq need.name name) (Some (n, need.place)) (before name)) → (name : List ℕ) → after name ≡ option_or (before name) (fixed_for (need ∷ []) name)

@@ -32,10 +32,6 @@ highest_both p q (suc b) o e = by_test (p b) refl (highest_both p q b)
     by_test true d rest = let found : o ≡ Some b = e ∙ rw d refl in rw (found, d) refl
     by_test false d rest = let left : o ≡ highest p b = e ∙ rw d refl in rw d (rest o left)
 
-greater_none : (o : Option ℕ) → greater o None ≡ o
-greater_none None = refl
-greater_none (Some a) = refl
-
 -- the highest number that passes one of two tests
 pub highest_or : (p q : ℕ → Bool) (b : ℕ) → highest (λ n. p n || q n) b ≡ greater (highest p b) (highest q b)
 unfolding highest

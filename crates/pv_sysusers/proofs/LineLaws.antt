@@ -1,24 +1,16 @@
 -- The lines that count, line after line.
-use Rattle.std.proofs.Common.{◌≡◌, ℕ, ◌+◌, ◌<◌, Bool, true, false, List, [], ◌∷◌, ◌++◌, take, drop, get_or, length, Bor, Option, Some, None, add-one, refl, sym, ap, ◌∙◌, cond, if◌then◌else◌}
+use Rattle.std.proofs.Common.{◌≡◌, ℕ, ◌+◌, ◌<◌, Bool, true, false, List, [], ◌∷◌, ◌++◌, take, get_or, length, Bor, Option, Some, None, refl, sym, ap, ◌∙◌, cond, if◌then◌else◌}
 use Rattle.std.specs.List.{flat_map}
 use Rattle.std.specs.Option.{option_or}
 use Rattle.std.specs.Str.{bytes_eq}
-use Rattle.std.proofs.Math.Seq.{drop-cons}
 use Rattle.std.proofs.lemmas.Grind.{flat_map-append}
 use Rattle.std.proofs.lemmas.List.{append-nil, map-append, take_more}
 use Rattle.std.proofs.lemmas.Slice.Eq.{bytes_eq-Decides}
 use Rattle.pv_requests.specs.declared.request.Request.{Request}
-use Rattle.pv_sysusers.specs.Lines.{Line, first_user, is_user, lines_from, owners_at, user_of}
+use Rattle.pv_sysusers.specs.Lines.{Line, first_user, is_user, user_of}
 use Rattle.pv_sysusers.specs.Shown.{shown, shown_line}
 use Rattle.pv_sysusers.specs.declared.path_ids.PathId.{PathId}
 use Rattle.pv_path.proofs.Tests.{option_or-none}
-
--- the first request that is left, with its owners
-pub lines_next : (taken : List (Option PathId)) (requests : List Request) (i : ℕ) (request : Request) → i < length requests → request ≡ get_or requests i request
-    → lines_from taken i (drop i requests) ≡ (request, owners_at taken i) ∷ lines_from taken (i + 1) (drop (i + 1) requests)
-lines_next taken requests i request below is =
-    let e : drop i requests ≡ get_or requests i request ∷ drop (i + 1) requests = rw (drop-cons requests i request below, add-one i) refl in
-    ap (lines_from taken i) e ∙ ap (λ (r : Request). (r, owners_at taken i) ∷ lines_from taken (i + 1) (drop (i + 1) requests)) (sym is)
 
 pub shown_more : (xs : List (Bor Request × Option PathId)) (line : Bor Request × Option PathId) → shown (xs ++ line ∷ []) ≡ shown xs ++ shown_line line ∷ []
 shown_more xs line = map-append shown_line xs (line ∷ [])

@@ -1,8 +1,7 @@
 -- The lines of an account file with the places of their names, where members are added.
-use Rattle.std.proofs.Common.{◌≡◌, ℕ, ◌+◌, ◌-◌, ◌<◌, ◌≤◌, zero, suc, Bool, true, false, ◌||◌, ◌&&◌, List, [], ◌∷◌, ◌++◌, map, take, drop, find, length, get_or, set, Bor, Option, Some, None, Result, Ok, Err, OnOk, is_some, option_map, add-one, append-nil, refl, sym, ap, ◌∙◌, arith, cond, if◌then◌else◌}
+use Rattle.std.proofs.Common.{◌≡◌, ℕ, ◌+◌, ◌-◌, ◌<◌, ◌≤◌, zero, suc, Bool, true, false, ◌||◌, ◌&&◌, List, [], ◌∷◌, ◌++◌, map, take, drop, find, length, get_or, set, Bor, Option, Some, None, Result, Ok, Err, OnOk, is_some, option_map, append-nil, refl, sym, ap, ◌∙◌, arith, cond, if◌then◌else◌}
 use Rattle.std.specs.List.{flat_map, list_all, list_any}
 use Rattle.std.specs.Str.{bytes_eq}
-use Rattle.std.proofs.Math.Seq.{drop-cons}
 use Rattle.std.proofs.lemmas.Slice.Eq.{bytes_eq-Decides}
 use Rattle.std.specs.Option.{option_or}
 use Rattle.std.proofs.lemmas.Bool.{and_parts}
@@ -15,13 +14,12 @@ use Rattle.pv_accounts.specs.Entries.{fields_of}
 use Rattle.pv_accounts.specs.Kinds.{has_members, is_entry_named, test_of}
 use Rattle.pv_accounts.specs.declared.find.Kind.{Kind}
 use Rattle.pv_accounts.specs.declared.find.Kind.TheVariants.{Passwd, Group, Shadow, Gshadow}
-use Rattle.pv_requests.specs.Names.{is_account_name}
 use Rattle.pv_accounts.proofs.Ends.{lines_lack, member_lines}
 use Rattle.pv_accounts.proofs.Holding.{Fields}
 use Rattle.pv_accounts.proofs.Members.{HasMembers, file_named, group_members, gshadow_members}
 use Rattle.pv_accounts.proofs.Rereading.{IsPlain}
 use Rattle.pv_path.proofs.Tests.{option_or-none}
-use Rattle.pv_sysusers.specs.Members.{AreLines, IsPlaced, are_accounts, lines_held, pairs_of, place_of, place_found}
+use Rattle.pv_sysusers.specs.Members.{AreLines, IsPlaced, lines_held, place_of, place_found}
 use Rattle.pv_sysusers.specs.declared.members.MemberLines.{MemberLines}
 use Rattle.pv_sysusers.specs.Texts.{with_memberships}
 
@@ -131,11 +129,6 @@ module _ (test : Fields → Bool) (group user : List ℕ) where
       sym (ap (λ (ls : List (List ℕ)). lines_of (text_of (with_member test group user ls))) e)
       ∙ member_lines test group user (text_of lines) h ∙ ap (with_member test group user) e
 
-  -- one member of several
-  pub one_more : (ms : List (List ℕ × List ℕ)) (lines : List (List ℕ)) → AreLines lines
-      → with_memberships test ((group, user) ∷ ms) (text_of lines) ≡ with_memberships test ms (text_of (with_member test group user lines))
-  one_more ms lines e = ap (λ (ls : List (List ℕ)). with_memberships test ms (text_of (with_member test group user ls))) e
-
 -- ---- kinds of files
 
 pub members_in : (kind : Kind) → has_members kind ≡ true → HasMembers (test_of kind)
@@ -144,17 +137,7 @@ members_in Group h = group_members
 members_in Shadow h = absurd (let no : false ≡ true = h in cc)
 members_in Gshadow h = gshadow_members
 
-pub one_field : (kind : Kind) → has_members kind ≡ true → (x : List ℕ) → test_of kind (x ∷ []) ≡ false
-one_field Passwd h x = absurd (let no : false ≡ true = h in cc)
-one_field Group h x = refl
-one_field Shadow h x = absurd (let no : false ≡ true = h in cc)
-one_field Gshadow h x = refl
-
 -- ---- the name of a line
-
--- a line of one field is no entry
-pub unnamed : (kind : Kind) → has_members kind ≡ true → (line : List ℕ) → fields_of line ≡ line ∷ [] → (name : List ℕ) → is_entry_named (test_of kind) name line ≡ false
-unnamed kind h line f name = let no : test_of kind (line ∷ []) ≡ false = one_field kind h line in rw (f, no) refl
 
 -- a line is an entry of its first field, or of no name
 pub named_of : (test : Fields → Bool) (line a : List ℕ) (more : Fields) → fields_of line ≡ a ∷ more → lacks_end line ≡ true
@@ -197,33 +180,6 @@ placed_more test stated after lines more line at e is before step name =
     ∙ ap (λ (o : Option ℕ). option_or o (cond (is_entry_named test name line) (Some at) None)) (before name)
     ∙ ap (λ (n : ℕ). option_or (place_of test name lines) (cond (is_entry_named test name line) (Some n) None)) e
     ∙ sym (ap (place_of test name) is ∙ place_end test name line lines)
-
-module _ (test : Fields → Bool) (members : List (Bor (List ℕ) × Bor (List ℕ))) (i : ℕ) (m : Bor (List ℕ) × Bor (List ℕ)) (below : i < length members) (is : m ≡ get_or members i m) where
-  first_left : pairs_of (drop i members) ≡ (m.0.now, m.1.now) ∷ pairs_of (drop (i + 1) members)
-  first_left =
-      let e : drop i members ≡ get_or members i m ∷ drop (i + 1) members = rw (drop-cons members i m below, add-one i) refl in
-      ap pairs_of e ∙ ap (λ (x : Bor (List ℕ) × Bor (List ℕ)). (x.0.now, x.1.now) ∷ pairs_of (drop (i + 1) members)) (sym is)
-
-  -- one member of several is added
-  pub next_left : (lines more : List (List ℕ)) (whole : List ℕ) → AreLines lines → more ≡ with_member test m.0.now m.1.now lines
-      → with_memberships test (pairs_of (drop i members)) (text_of lines) ≡ whole → with_memberships test (pairs_of (drop (i + 1) members)) (text_of more) ≡ whole
-  next_left lines more whole e step left =
-      ap (λ (ls : List (List ℕ)). with_memberships test (pairs_of (drop (i + 1) members)) (text_of ls)) step
-      ∙ sym (one_more test m.0.now m.1.now (pairs_of (drop (i + 1) members)) lines e)
-      ∙ ap (λ (ms : List (List ℕ × List ℕ)). with_memberships test ms (text_of lines)) (sym first_left) ∙ left
-
-  pub next_text : (file text whole : List ℕ) → text ≡ text_of (with_member test m.0.now m.1.now (lines_of file))
-      → with_memberships test (pairs_of (drop i members)) file ≡ whole → with_memberships test (pairs_of (drop (i + 1) members)) text ≡ whole
-  next_text file text whole step left =
-      ap (with_memberships test (pairs_of (drop (i + 1) members))) step
-      ∙ ap (λ (ms : List (List ℕ × List ℕ)). with_memberships test ms file) (sym first_left) ∙ left
-
-  pub next_accounts : are_accounts (drop i members) ≡ true → (is_account_name m.1.now ≡ true) × (are_accounts (drop (i + 1) members) ≡ true)
-  next_accounts h =
-      let e : drop i members ≡ get_or members i m ∷ drop (i + 1) members = rw (drop-cons members i m below, add-one i) refl in
-      let all : (is_account_name m.1.now && are_accounts (drop (i + 1) members)) ≡ true =
-      ap (λ (x : Bor (List ℕ) × Bor (List ℕ)). is_account_name x.1.now && are_accounts (drop (i + 1) members)) is ∙ sym (ap are_accounts e) ∙ h in
-      and_parts (is_account_name m.1.now) (are_accounts (drop (i + 1) members)) all
 
 -- ---- places that are noted
 

@@ -9,14 +9,6 @@ use Rattle.pv_sysusers.specs.Texts.{has_entry, is_known, without_entry}
 use Rattle.pv_sysusers.specs.declared.needs.Need.{Need}
 use Rattle.pv_accounts.proofs.Holding.{same_names}
 
--- no name is among none
-pub known_none : (test : List (List ℕ) → Bool) (file other : List ℕ) → has_entry test file other ≡ is_known test file [] other
-known_none test file other = by (has_entry test file other)
-  where
-    by : (b : Bool) → b ≡ (b || false)
-    by true = refl
-    by false = refl
-
 -- one more name is known
 pub known_more : (test : List (List ℕ) → Bool) (file : List ℕ) (names : List (List ℕ)) (name other : List ℕ) (new old : Bool) → new ≡ (bytes_eq name other || old) → old ≡ is_known test file names other
     → new ≡ is_known test file (names ++ name ∷ []) other

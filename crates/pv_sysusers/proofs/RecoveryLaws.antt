@@ -43,9 +43,9 @@ use Rattle.pv_sysusers.specs.declared.path_ids.PathId.{PathId}
 use Rattle.pv_sysusers.specs.declared.planned.Texts.{Texts}
 use Rattle.pv_sysusers.proofs.FinishLaws.{plan_finishes, plan_lacks, plan_own}
 use Rattle.pv_sysusers.specs.declared.edit.Edit.{Edit}
-use Rattle.pv_sysusers.specs.Edits.{etc, with_edit}
+use Rattle.pv_sysusers.specs.Edits.{with_edit}
+use Rattle.pv_layers.specs.Places.{etc, group_path, passwd_path}
 use Rattle.pv_sysusers.specs.FileWriting.{AccountWay, account_paths, gshadow_path, shadow_path, swept_names, with_directory}
-use Rattle.pv_layers.specs.Places.{group_path, passwd_path}
 use Rattle.pv_sysusers.specs.Accounted.{HasPlainPath, IsUsable, accounted, accounted_unless, carried_files, day_of, edit_at, edit_to, edits_at, edits_by, edits_to, edits_unless, files_at, ids_at, ids_of, lacking_at, lacking_in, lacking_unless, other_text, plan_at, text_at, unusable_by, unusable_text, unusable_texts}
 use Rattle.pv_sysusers.specs.Recovery.{EndAlike, Recovers}
 use Rattle.pv_sysusers.proofs.BesideLaws.{AreElse, edits_left, first_all}

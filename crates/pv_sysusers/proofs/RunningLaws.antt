@@ -1,5 +1,5 @@
 -- Laws of a run: the tree that it leaves as a map, and what its answer says.
-use Rattle.std.specs.Prelude.{◌≡◌, ◌⊎◌, ℕ, ◌≤◌, Bool, true, false, cond, List, [], ◌∷◌, ◌++◌, length, map, fold, Option, Some, None, is_some, Result, Ok, Err, OnOk, IsErrAnd}
+use Rattle.std.specs.Prelude.{◌≡◌, ◌⊎◌, ℕ, ◌≤◌, Bool, true, false, cond, List, [], ◌∷◌, ◌++◌, length, map, fold, Option, Some, None, is_some, Result, Ok, Err, OnOk}
 use Rattle.std.proofs.Common.{refl, sym, ap, subst, ◌∙◌, arith, inl, inr}
 use Rattle.std.specs.FinMap as fin
 use Rattle.pv_path.specs.Paths.{Path, same_path, is_prefix}
@@ -18,17 +18,14 @@ use Rattle.pv_walk.specs.Staging.{new_object}
 use Rattle.pv_steps.specs.declared.carried.Carried.{Carried}
 use Rattle.pv_sysusers.specs.declared.edit.Edit.{Edit}
 use Rattle.pv_sysusers.specs.declared.accounts_fault.AccountsFault.{AccountsFault}
-use Rattle.pv_sysusers.specs.declared.accounts_fault.AccountsFault.TheVariants.{NoFreeId, Failed, Memory}
-use Rattle.pv_sysusers.specs.Edits.{edited, etc, with_edit}
+use Rattle.pv_sysusers.specs.declared.accounts_fault.AccountsFault.TheVariants.{Failed, Memory}
+use Rattle.pv_sysusers.specs.Edits.{edited, with_edit}
+use Rattle.pv_layers.specs.Places.{etc}
 use Rattle.pv_sysusers.specs.FileWriting.{carried_out, swept_names, with_directory}
 use Rattle.pv_requests.specs.declared.request.Request.{Request}
 use Rattle.pv_sysusers.specs.Lines.{lines_from, duplicate_messages}
-use Rattle.pv_steps.specs.declared.step.Step.{Step}
-use Rattle.pv_steps.specs.declared.tree.Tree.{Ghosts}
-use Rattle.pv_steps.proofs.ActingLaws.{not_failed}
-use Rattle.pv_steps.specs.Acting.{Acted, refused}
 use Rattle.pv_sysusers.specs.Accounted.{accounted, accounted_unless, carried_files, edits_at, edits_by, edits_unless, lacking_at, lacking_in, lacking_unless, plan_at, messages_unless, unusable_texts}
-use Rattle.pv_sysusers.specs.Running.{in_steps, run_answer}
+use Rattle.pv_sysusers.specs.Running.{run_answer}
 use Rattle.pv_walk.proofs.PreparedLaws.{among_first}
 
 -- ---- which paths a run leaves present
@@ -132,23 +129,6 @@ some_lacking (x ∷ xs) lacking h = refl
 pub nil_of : (xs : List (List ℕ)) → length xs ≤ 0 → xs ≡ []
 nil_of [] h = refl
 nil_of (x ∷ xs) h = absurd (omega (arith, h))
-
--- an answer that tells running out of memory refuses nothing
-pub no_step : (r : Result Carried AccountsFault) → IsErrAnd r (λ e. e ≡ Memory) → refused (in_steps r) ≡ 0
-no_step (Ok x) h = absurd h
-no_step (Err (NoFreeId name)) h = refl
-no_step (Err Failed) h = cc
-no_step (Err Memory) h = refl
-
--- the answer of what was done in steps is that of the run
-pub in_answer : {S : Type 0} (tree : Ghosts S) (P : Files → Type 0) (Q : Step → Type 0) {most now : ℕ} {a b : S} (r : Result (Unit {0}) TreeFault) (v : Result Carried AccountsFault) → v ≡ run_answer r
-    → Acted tree P Q most now a b r → Acted tree P Q most now a b (in_steps v)
-in_answer tree P Q {most} {now} {a} {b} r v e acted = subst (λ (w : Result Carried AccountsFault). Acted tree P Q most now a b (in_steps w)) (sym e) (by r acted)
-  where
-    by : (r : Result (Unit {0}) TreeFault) → Acted tree P Q most now a b r → Acted tree P Q most now a b (in_steps (run_answer r))
-    by (Ok x) acted = record { ran = acted.ran; bound = acted.bound; reaches = acted.reaches; counted = acted.counted; last = λ h. absurd (not_failed (in_steps (run_answer {A = Unit {0}} (Ok x))) refl h) }
-    by (Err step.Failed) acted = record { ran = acted.ran; bound = acted.bound; reaches = acted.reaches; counted = acted.counted; last = λ h. acted.last refl }
-    by (Err step.Memory) acted = record { ran = acted.ran; bound = acted.bound; reaches = acted.reaches; counted = acted.counted; last = λ h. absurd (not_failed (in_steps (run_answer {A = Unit {0}} (Err step.Memory))) refl h) }
 
 pub on_answer : (r : Result (Unit {0}) TreeFault) (v : Result Carried AccountsFault) → v ≡ run_answer r → {X Y : Type 0} → (X → Y) → OnOk r X → OnOk v Y
 on_answer r v e {X} {Y} f h = subst (λ (w : Result Carried AccountsFault). OnOk w Y) (sym e) (by r h)

@@ -27,8 +27,7 @@ use Rattle.pv_sysusers.specs.declared.planned.Texts.{Texts}
 use Rattle.pv_sysusers.specs.Planning.{files_in}
 use Rattle.pv_sysusers.specs.Plans.{planned}
 use Rattle.pv_sysusers.specs.declared.edit.Edit.{Edit}
-use Rattle.pv_sysusers.specs.Edits.{etc}
-use Rattle.pv_layers.specs.Places.{group_path, passwd_path}
+use Rattle.pv_layers.specs.Places.{etc, group_path, passwd_path}
 use Rattle.pv_sysusers.specs.FileWriting.{carried_out, gshadow_path, shadow_path, swept_names, with_directory}
 use Rattle.pv_sysusers.specs.Accounted.{HasPlainPath, accounted, accounted_unless, accounts_messages, carried_files, day_of, metadata_at, edit_at, edits_at, edits_by, edits_to, edits_unless, files_at, ids_at, ids_of, lacking_at, lacking_in, lacking_unless, plain_metadata, plan_at, messages_unless, text_at, unusable_by, unusable_text, unusable_texts}
 use Rattle.pv_sysusers.proofs.FileWritingLaws.{directory_object_states, parent_object_states, with_some}

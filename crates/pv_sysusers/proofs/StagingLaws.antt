@@ -16,7 +16,8 @@ use Rattle.pv_walk.proofs.EditLaws.{put_at-else, object_states-made, object_stat
 use Rattle.pv_walk.proofs.PublishLaws.{staging_nonempty, stage_outside, path_outside}
 use Rattle.pv_walk.proofs.PuttingLaws.{made-none}
 use Rattle.pv_sysusers.specs.declared.edit.Edit.{Edit}
-use Rattle.pv_sysusers.specs.Edits.{AreEdits, IsBeside, IsEdit, IsFree, IsStaged, edited, etc, with_edit, with_published, with_staged}
+use Rattle.pv_sysusers.specs.Edits.{AreEdits, IsBeside, IsEdit, IsFree, IsStaged, edited, with_edit, with_published, with_staged}
+use Rattle.pv_layers.specs.Places.{etc}
 use Rattle.pv_sysusers.proofs.MovingLaws.{made_else, moved_beside, moved_here, not_back, not_parent}
 use Rattle.pv_path.proofs.Tests.{true_not_false}
 

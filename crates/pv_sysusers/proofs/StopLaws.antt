@@ -17,10 +17,10 @@ use Rattle.pv_walk.proofs.EditLaws.{object_states-made}
 use Rattle.pv_walk.specs.Removal.{is_one_of}
 use Rattle.pv_sysusers.specs.declared.planned.Texts.{Texts}
 use Rattle.pv_sysusers.specs.declared.edit.Edit.{Edit}
-use Rattle.pv_sysusers.specs.Edits.{edited, etc, with_edit}
+use Rattle.pv_sysusers.specs.Edits.{edited, with_edit}
+use Rattle.pv_layers.specs.Places.{etc, group_path, passwd_path}
 use Rattle.pv_sysusers.specs.FileWriting.{account_paths, gshadow_path, shadow_path}
 use Rattle.pv_sysusers.specs.Accounted.{edit_at, edit_to, edits_to, plain_metadata, text_at}
-use Rattle.pv_layers.specs.Places.{group_path, passwd_path}
 use Rattle.pv_sysusers.proofs.SameLaws.{seen, seen_or, uid_in}
 use Rattle.pv_steps.proofs.ObjectLaws.{kind_of-same}
 
@@ -273,9 +273,6 @@ module _ (t u base : Places) (texts : Texts) (start : (q : Path) → same_path e
       from_all (inr e) = come_all e
 
 -- ---- the object at the paths of the account files
-
-kind_new : (o : Object) → o.node.kind ≡ File → kind_of (Some o) ≡ Some File
-kind_new o e = ap (λ k. Some k) e
 
 module _ (t u : Places) (path : Path) (mode : ℕ) where
   text_seen : (a : Option Object) → object_states u path ≡ option_map object_state a → text_at u path ≡ option_map (λ o. o.payload) a

@@ -1,34 +1,26 @@
 -- Laws of sweeping the staging names of the account files: that of their directory is swept once.
-use Rattle.std.specs.Prelude.{◌≡◌, ℕ, ◌+◌, ◌≤◌, Bool, true, false, ◌||◌, cond, List, [], ◌∷◌, ◌++◌, map, Option, Some, None, is_some, option_map, Result, Ok}
+use Rattle.std.specs.Prelude.{◌≡◌, ℕ, ◌+◌, ◌≤◌, Bool, true, false, ◌||◌, List, [], ◌∷◌, ◌++◌, map, Option, Some, None, option_map, Result, Ok}
 use Rattle.std.proofs.Common.{refl, sym, ap, ◌∙◌, arith, inl, inr, ◌⊎◌}
 use Rattle.std.specs.List.{AllByRecursion}
 use Rattle.std.proofs.lemmas.List.Sums.{sum-map, sum_by-cons}
 use Rattle.std.proofs.Math.Bool.{or-true}
 use Rattle.std.proofs.lemmas.Bool.{cases_Bool}
 use Rattle.pv_path.specs.Paths.{Path, is_prefix, staging_of}
-use Rattle.pv_path.proofs.PathLaws.{is_prefix-refl}
 use Rattle.pv_steps.specs.Objects.{object_state}
-use Rattle.pv_steps.specs.Trees.{Files, Places, places, IsAbsentIn, IsTree}
-use Rattle.pv_steps.specs.Steps.{touched}
+use Rattle.pv_steps.specs.Trees.{Files, places, IsAbsentIn, IsTree}
 use Rattle.pv_steps.specs.Content.{Removes}
 use Rattle.pv_steps.specs.declared.object.Object.{Object}
 use Rattle.pv_steps.specs.declared.tree.Tree.{Ghosts}
 use Rattle.pv_steps.specs.declared.tree.TreeFault.{TreeFault}
 use Rattle.pv_steps.specs.Acting.{Acted}
 use Rattle.pv_steps.proofs.ActingLaws.{Moves, well, acted_none, acted_within}
-use Rattle.pv_walk.specs.Edits.{Pruned, cut, taken, all_taken, count_at}
+use Rattle.pv_walk.specs.Edits.{Pruned, count_at}
 use Rattle.pv_walk.specs.Staging.{count_at_all, is_under_any, staging_names}
 use Rattle.pv_walk.proofs.Removing.{prune_then}
 use Rattle.pv_walk.proofs.SweepLaws.{pruned-none, pruned_count}
-use Rattle.pv_walk.proofs.PreparingSweep.{swept_along}
 use Rattle.pv_walk.proofs.PuttingOverLaws.{count_absent}
-use Rattle.pv_sysusers.specs.Edits.{etc}
-use Rattle.pv_layers.specs.Places.{group_path, passwd_path}
+use Rattle.pv_layers.specs.Places.{etc, group_path, passwd_path}
 use Rattle.pv_sysusers.specs.FileWriting.{IsSweptPath, account_paths, gshadow_path, shadow_path, swept_names}
-
--- where nothing stands nothing is taken
-taken_absent : (now : ℕ) (x : Path) (t : Places) → IsAbsentIn t x → taken now x t ≡ t
-taken_absent now x t h = ap (λ b. cond b (touched now x (cut x t)) t) (ap is_some h)
 
 -- ---- among the staging names
 
@@ -70,15 +62,6 @@ module _ (path : Path) (is : IsSweptPath path) where
       by (inl h) other = under_one [] (map staging_of account_paths) (staging_of etc) q h
       by (inr h) (inl g) = is.among q g
       by (inr h) (inr g) = absurd (let no : false ≡ true = sym (ap (λ b. b || (is_prefix (staging_of path) q || false)) h ∙ ap (λ b. b || false) g) ∙ both in cc)
-
-  pub swept_one : (now : ℕ) (t u : Places) → IsAbsentIn t (staging_of etc) → u ≡ all_taken now (staging_names path) t → u ≡ taken now (staging_of path) t
-  swept_one now t u none e = e ∙ ap (λ (ps : List Path). all_taken now ps t) is.along ∙ ap (taken now (staging_of path)) (taken_absent now (staging_of etc) t none)
-
-  pub path_free : (now : ℕ) (t u : Files) → places u ≡ all_taken now (staging_names path) (places t) → IsAbsentIn (places u) (staging_of path)
-  path_free now t u e = swept_along now path t u e path is.some (is_prefix-refl path)
-
-  pub etc_free : (now : ℕ) (t u : Files) → places u ≡ all_taken now (staging_names path) (places t) → IsAbsentIn (places u) (staging_of etc)
-  etc_free now t u e = swept_along now path t u e etc (λ e. cc) is.above
 
   pub count_one : (t : Files) → IsTree t → IsAbsentIn (places t) (staging_of etc) → count_at_all t (staging_names path) ≤ count_at t (staging_of path)
   count_one t tree none =

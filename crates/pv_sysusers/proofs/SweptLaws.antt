@@ -2,7 +2,7 @@
 use Rattle.std.specs.Prelude.{◌≡◌, ℕ, Bool, true, false, cond, List, [], ◌∷◌, fold, Option, None, is_some, Result, OnOk}
 use Rattle.std.proofs.Common.{refl, sym, ap, subst, ◌∙◌}
 use Rattle.std.specs.List.{AllByRecursion}
-use Rattle.pv_layers.specs.Places.{group_path, passwd_path}
+use Rattle.pv_layers.specs.Places.{etc, group_path, passwd_path}
 use Rattle.pv_path.specs.Paths.{Path, has_staging, same_path, staging_of}
 use Rattle.pv_path.proofs.Tests.{true_not_false, on_ok}
 use Rattle.pv_requests.specs.declared.request.Request.{Request}
@@ -16,7 +16,7 @@ use Rattle.pv_walk.proofs.RemovalLaws.{no_same}
 use Rattle.pv_sysusers.specs.declared.edit.Edit.{Edit}
 use Rattle.pv_sysusers.specs.Accounted.{accounted, accounted_unless, carried_files, edits_at, lacking_at, unusable_texts}
 use Rattle.pv_sysusers.specs.FileWriting.{IsEditOf, account_paths, gshadow_path, shadow_path, swept_names, with_directory}
-use Rattle.pv_sysusers.specs.Edits.{IsEdit, edited, etc, with_edit}
+use Rattle.pv_sysusers.specs.Edits.{IsEdit, edited, with_edit}
 use Rattle.pv_sysusers.specs.Swept.{LeavesNoStagingName}
 use Rattle.pv_sysusers.proofs.BesideLaws.{edits_of_run}
 use Rattle.pv_sysusers.proofs.MovingLaws.{made_else}

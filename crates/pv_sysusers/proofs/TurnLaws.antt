@@ -5,14 +5,13 @@ use Rattle.std.specs.List.{AllByRecursion}
 use Rattle.std.proofs.lemmas.Bool.{and_parts}
 use Rattle.pv_path.specs.Paths.{Path, is_prefix, parent_of, same_path, staging_of}
 use Rattle.pv_path.proofs.PathLaws.{not_prefix_not_same, parent_of-push, path_ends, prefix_parts}
-use Rattle.pv_steps.specs.declared.object.Object.{Object}
 use Rattle.pv_steps.specs.declared.step.Step.{Step}
 use Rattle.pv_steps.specs.declared.tree.Tree.{Ghosts}
 use Rattle.pv_steps.specs.declared.tree.TreeFault.{TreeFault}
 use Rattle.pv_steps.specs.Acting.{Acted}
 use Rattle.pv_steps.specs.Objects.{object_state}
 use Rattle.pv_steps.specs.Same.{object_states}
-use Rattle.pv_steps.specs.Steps.{made, moved}
+use Rattle.pv_steps.specs.Steps.{made}
 use Rattle.pv_steps.specs.Trees.{Files, Places, places, IsAbsentIn, IsTree}
 use Rattle.pv_steps.proofs.ActingLaws.{Moves, acted_end, acted_then, acted_weaken, acted_within}
 use Rattle.pv_walk.specs.SettingMetadata.{SettingMetadata, GivesMetadata}
@@ -29,14 +28,15 @@ use Rattle.pv_walk.specs.Staging.{GivesNew, IsPublishing, is_under_any, new_obje
 use Rattle.pv_walk.specs.Listing.{is_child}
 use Rattle.pv_walk.proofs.CountLaws.{is_child-push}
 use Rattle.pv_walk.proofs.PublishLaws.{stage_outside}
-use Rattle.pv_walk.proofs.PuttingLaws.{made-none, none_under}
+use Rattle.pv_walk.proofs.PuttingLaws.{made-none}
 use Rattle.pv_walk.proofs.PuttingOverLaws.{over_moved}
 use Rattle.pv_walk.proofs.RemovalLaws.{is_below-child}
 use Rattle.pv_walk.proofs.StageLaws.{begun_stage, setting_metadata_stage}
 use Rattle.pv_sysusers.specs.declared.edit.Edit.{Edit}
 use Rattle.pv_sysusers.specs.FileWriting.{IsAccountStep, IsStagedWhole, PutsDirectory, swept_names}
-use Rattle.pv_sysusers.specs.Edits.{AreEdits, IsBeside, IsEdit, IsFree, IsOfSome, Published, PublishesEdit, StagesEdit, edited, etc, most_staged, new_file, with_edit, with_published, with_staged}
-use Rattle.pv_sysusers.specs.Turns.{AreInTurn, InTurn, IsInStages, NoneComes, StagingOne, StagingSome, TurnWay, stages_of}
+use Rattle.pv_sysusers.specs.Edits.{AreEdits, IsBeside, IsEdit, IsFree, IsOfSome, Published, PublishesEdit, StagesEdit, edited, most_staged, new_file, with_edit, with_published, with_staged}
+use Rattle.pv_layers.specs.Places.{etc}
+use Rattle.pv_sysusers.specs.Turns.{AreInTurn, InTurn, NoneComes, StagingOne, StagingSome, TurnWay, stages_of}
 use Rattle.pv_sysusers.proofs.ActedLaws.{gives_metadata, gives_new}
 use Rattle.pv_sysusers.proofs.FileWritingLaws.{all_whole, drop_edits, none_object_state}
 use Rattle.pv_sysusers.proofs.DirectoryLaws.{etc_some}

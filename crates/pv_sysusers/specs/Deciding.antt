@@ -1,4 +1,4 @@
--- What the calls that decide numbers say of their answers.
+-- What the calls that choose numbers say of their answers.
 use Rattle.std.specs.Prelude.{◌≡◌, ℕ, Bool, not, ◌&&◌, ◌==◌, List, ◌++◌, Option, Some, None, Result, Ok, Err, nat_eq}
 use Rattle.std.specs.HashSet as set
 use Rattle.std.specs.List.{list_any}
@@ -22,60 +22,61 @@ use Rattle.pv_sysusers.specs.declared.pool.Stock.{Stock}
 use Rattle.pv_sysusers.specs.declared.pool.Supply.{Supply}
 use Rattle.pv_sysusers.specs.declared.wanted.Wanted.{Wanted}
 
--- whether a number may be given by a pool
+-- Whether a pool may give this number.
 abbrev pub pooled_by : Pool → ℕ → Bool
 pooled_by pool n = list_any (is_between n) pool.ranges.items && not (n == 0) && not (n == 65535) && not (set.contains nat_eq pool.fixed n)
 
--- whether a number of the ranges may be given, and nobody has it
+-- Whether a number of the ranges may be given, and no user and no group has it.
 abbrev pub is_free_in : Pool → Ids → Ids → ℕ → Bool
 is_free_in pool users groups n =
     not (n == 0) && not (n == 65535) && not (set.contains nat_eq pool.fixed n) && not (is_held users n) && not (is_held groups n)
 
--- the number that a pool gives next is the highest one that nobody has
+-- The number that a pool gives next is its highest one that nobody has.
 abbrev pub GivesNext : Stock → Ids → Ids → Type 0
 GivesNext stock users groups = stock.next ≡ free_number (pooled_by stock.pool.now) users groups
 
--- so it is with the pool that a number is chosen by
+-- The same for the pool from which a number is chosen.
 abbrev pub IsStocked : Supply → Type 0
 IsStocked supply = GivesNext supply.stock supply.users.now supply.groups.now
 
--- the number that a group gets, and what is said of it
+-- The number that a group gets, and the messages about it.
 abbrev pub group_choice_by : Supply → List ℕ → Option (ℕ × Place) → Choice
 group_choice_by supply name fixed = group_choice (pooled_by supply.stock.pool.now) supply.users.now supply.groups.now name fixed
 
--- the number that a user gets, and what is said of it
+-- The number that a user gets, and the messages about it.
 abbrev pub user_choice_by : Supply → Account → Choice
 user_choice_by supply account = user_choice (pooled_by supply.stock.pool.now) supply.users.now supply.groups.now account
 
--- the fixed number of a name, and where its line stands
+-- The number that a line fixes for a name, with the location of the line.
 abbrev pub fixed_by : Fixed → List ℕ → Option (ℕ × Place)
 fixed_by fixed name = option_map (λ f. (f.0, f.1.now)) (lookup (λ k. bytes_eq name k.now) fixed.numbers.entries)
 
--- the groups that lines ask for, as they are decided
+-- The groups that the lines ask for, with their numbers.
 abbrev pub groups_by : Wanted → Ids → Ids → NewGroups
 groups_by wanted users groups = decided_groups (pooled_by wanted.pool) users (fixed_for wanted.needs.items) groups wanted.needs.items
 
--- the users that lines ask for, as they are decided
+-- The users that the lines ask for, with their numbers.
 abbrev pub users_by : Wanted → Ids → Ids → NewUsers
 users_by wanted groups users = decided_users (pooled_by wanted.pool) groups users wanted.accounts.items
 
--- the new users as they were decided
+-- The new users are those that were decided, and a number was left for each.
 pub record AreMade (decided : NewUsers) (users : List NewUser) : Type 0 where
   pub made : users ≡ decided.made
   pub whole : decided.lacking ≡ None
 
--- the new groups as they were decided, after those that were there
+-- The new groups are those that were decided, and a number was left for each. They are added to the groups that
+-- exist.
 pub record IsMade (decided : NewGroups) (old : Ids) (groups : Groups) : Type 0 where
   pub made : groups.made.items ≡ decided.made
   pub all : groups.all ≡ old ++ decided.made
   pub whole : decided.lacking ≡ None
 
--- a fault that a call answers is the name for which no number was left, unless memory ran out
+-- The fault of a call is the name for which no number is left. If it is Memory, nothing is said.
 abbrev pub Lacks : Option (List ℕ) → PlanFault → Type 0
 Lacks lacking Memory = Unit {0}
 Lacks lacking (NoFreeId name) = lacking ≡ Some name
 
--- what holds unless memory ran out
+-- Something holds, unless memory ran out.
 abbrev pub UnlessMemoryBy : PlanFault → Type 0 → Type 0
 UnlessMemoryBy Memory P = Unit {0}
 UnlessMemoryBy (NoFreeId name) P = P

@@ -10,57 +10,58 @@ use Rattle.pv_text.specs.GivenMessages.{message_text_at}
 use Rattle.pv_text.specs.declared.place.Place.{Place}
 use Rattle.pv_sysusers.specs.declared.path_ids.PathId.{PathId}
 
--- a request, with the owner and the owning group of the object at its path, if there is one
+-- A request, with the owner and the group of the object at its path, if it names one and there is one.
 abbrev pub Line : Type 0
 Line = Request × Option PathId
 
--- the owners at a place of a list, where they are told
+-- The owners at an index of a list, if they are known.
 abbrev pub owners_at : List (Option PathId) → ℕ → Option PathId
 owners_at taken i = option_and_then (λ owners. owners) (slice_get taken i)
 
--- requests with their owners, the first of which are those at a place
+-- Requests with their owners. The first request has those at index i.
 abbrev pub lines_from : List (Option PathId) → ℕ → List Request → List Line
 lines_from taken i [] = []
 lines_from taken i (request ∷ requests) = (request, owners_at taken i) ∷ lines_from taken (i + 1) requests
 
--- the user that a u line names
+-- The user that a `u` line names.
 abbrev pub user_of : Request → Option (List ℕ)
 user_of (request.User name id locked gecos home shell place) = Some name
 user_of _ = None
 
--- whether a request is the u line of a user
+-- Whether a request is the `u` line of this user.
 abbrev pub is_user : List ℕ → Request → Bool
 is_user name request = option_map_or (λ user. bytes_eq user name) (user_of request) false
 
--- the first u line of a user
+-- The first `u` line of a user.
 abbrev pub first_user : List Line → List ℕ → Option Request
 first_user [] name = None
 first_user (line ∷ lines) name = if is_user name line.0 then Some line.0 else first_user lines name
 
--- whether some u line names a user
+-- Whether some `u` line names a user.
 abbrev pub is_named : List Line → List ℕ → Bool
 is_named lines name = is_some (first_user lines name)
 
--- where a request stands
+-- The location (file and line) of a request.
 abbrev pub place_of : Request → Place
 place_of (request.User name id locked gecos home shell place) = place
 place_of (request.Group name id place) = place
 place_of (request.Member user group place) = place
 place_of (request.Range first last place) = place
 
--- the u line before a line with the same user
+-- The earlier `u` line of the same user, if there is one.
 abbrev pub earlier : List Line → Line → Option Request
 earlier lines line = option_and_then (first_user lines) (user_of line.0)
 
--- the lines that count: of two u lines with one name the first
+-- Of several `u` lines of one user, only the first counts.
 abbrev pub with_counting : List Line → Line → List Line
 with_counting lines line = if is_some (earlier lines line) then lines else lines ++ line ∷ []
 
--- what is said of a u line that comes again and says something else
+-- The message about a `u` line that does not count and asks for something else.
 abbrev pub duplicate_message : Place → List ℕ → List ℕ
 duplicate_message place name = message_text_at place (codes "duplicate line for " ++ printed name)
 
--- what is said of a u line of a user that has one already: nothing if they say the same
+-- The messages about a line. There is one if it is a `u` line of a user who has one already, and it asks for
+-- something else.
 abbrev pub messages_again : List Line → Line → List (List ℕ)
 messages_again lines line = by (earlier lines line) (user_of line.0)
   where
@@ -68,12 +69,12 @@ messages_again lines line = by (earlier lines line) (user_of line.0)
     by (Some first) (Some name) = if same_user first line.0 then [] else duplicate_message (place_of line.0) name ∷ []
     by _ _ = []
 
--- the lines that count among lines, after those that count before them
+-- The lines that count, after those that count before them.
 abbrev pub counting : List Line → List Line → List Line
 counting kept [] = kept
 counting kept (line ∷ lines) = counting (with_counting kept line) lines
 
--- what is said of lines that come again
+-- The messages about duplicate lines.
 abbrev pub duplicate_messages : List Line → List Line → List (List ℕ)
 duplicate_messages kept [] = []
 duplicate_messages kept (line ∷ lines) = messages_again kept line ++ duplicate_messages (with_counting kept line) lines

@@ -12,30 +12,30 @@ use Rattle.pv_sysusers.specs.declared.planned.Texts.{Texts}
 use Rattle.pv_sysusers.specs.declared.planned.Numbers.{Numbers as NewNumbers}
 use Rattle.pv_sysusers.specs.declared.wanted.Wanted.{Wanted}
 
--- what lines ask for, as it was gathered
+-- What lines ask for, as it was gathered.
 pub record IsWanted (users : Ids) (lines : List Line) (wanted : Wanted) : Type 0 where
   pub needs : wanted.needs.items ≡ needs_by users lines
   pub accounts : wanted.accounts.items ≡ accounts_by users lines
   pub pool : (n : ℕ) → pooled_by wanted.pool n ≡ pool_by users lines n
 
--- the numbers by what lines ask for
+-- The numbers for what lines ask for.
 abbrev pub numbers_in : Wanted → Ids → Ids → Numbers
 numbers_in wanted users groups = numbers_by (pooled_by wanted.pool) (fixed_for wanted.needs.items) users groups wanted.needs.items wanted.accounts.items
 
--- the account files that slices show
+-- The account files of borrowed texts.
 abbrev pub files_of : Slices → AccountFiles
 files_of files = record { passwd = files.passwd.now; group = files.group.now; shadow = files.shadow.now; gshadow = option_map (λ file. file.now) files.gshadow }
 
--- the account files of these texts
+-- The account files of these texts.
 abbrev pub files_in : List ℕ → List ℕ → List ℕ → Option (List ℕ) → AccountFiles
 files_in passwd group shadow gshadow = record { passwd = passwd; group = group; shadow = shadow; gshadow = gshadow }
 
--- a fault that a call answers is the name for which no number was left, unless memory ran out
+-- The fault of a call is the name for which no number is left. If it is Memory, nothing is said.
 abbrev pub Misses : Result Texts (List ℕ) → PlanFault → Type 0
 Misses texts Memory = Unit {0}
 Misses texts (NoFreeId name) = texts ≡ Err name
 
--- the numbers as they were decided
+-- The numbers are those that were decided, and a number was left for each name.
 pub record AreNumbers (decided : Numbers) (new : NewNumbers) : Type 0 where
   pub groups : new.groups.items ≡ decided.groups
   pub users : new.users.items ≡ decided.users

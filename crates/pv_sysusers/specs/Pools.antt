@@ -5,44 +5,44 @@ use Rattle.pv_accounts.specs.InUse.{Ids, is_held}
 use Rattle.pv_requests.specs.declared.request.Request.TheVariants as request
 use Rattle.pv_sysusers.specs.Lines.{Line}
 
--- the range of an r line
+-- The range of an `r` line.
 abbrev pub range_of : Line → List (ℕ × ℕ)
 range_of (request.Range first last place, owners) = (first, last) ∷ []
 range_of _ = []
 
--- the ranges that lines give, or else 1 to 999
+-- The ranges of all `r` lines. If there are none, 1 to 999.
 abbrev pub ranges_or_own : List (ℕ × ℕ) → List (ℕ × ℕ)
 ranges_or_own [] = (1, 999) ∷ []
 ranges_or_own (range ∷ ranges) = range ∷ ranges
 
--- whether a number lies in a range
+-- Whether a number is in a range.
 abbrev pub is_between : ℕ → ℕ × ℕ → Bool
 is_between n range = nat_le range.0 n && nat_le n range.1
 
--- whether a number may be given: it lies in a range, and is neither 0 nor 65535 nor one that a line fixes
+-- Whether a number may be given. It is in a range, it is not 0 or 65535, and no line fixes it.
 abbrev pub is_pooled : List (ℕ × ℕ) → List ℕ → ℕ → Bool
 is_pooled ranges fixed n =
     list_any (is_between n) (ranges_or_own ranges) && not (n == 0) && not (n == 65535) && not (list_any (λ m. m == n) fixed)
 
--- the highest number below a bound that passes a test
+-- The highest number below a bound that passes a test.
 unfoldable pub highest : (ℕ → Bool) → ℕ → Option ℕ
 highest test zero = None
 highest test (suc n) = if test n then Some n else highest test n
 
--- the last number of a range that is not empty
+-- The last number of a range that is not empty.
 abbrev pub last_of : ℕ × ℕ → Option ℕ
 last_of range = if nat_le range.0 range.1 then Some range.1 else None
 
--- the greater of two numbers, if there are any
+-- The greater one of two numbers, if there are any.
 abbrev pub greater : Option ℕ → Option ℕ → Option ℕ
 greater None other = other
 greater (Some a) None = Some a
 greater (Some a) (Some b) = Some (max a b)
 
--- the highest number of the pool below a bound that no user and no group has
+-- The highest number of the pool, below a bound, that no user and no group has.
 abbrev pub free_below : (ℕ → Bool) → Ids → Ids → ℕ → Option ℕ
 free_below pooled users groups bound = highest (λ n. pooled n && not (is_held users n) && not (is_held groups n)) bound
 
--- the highest number of the pool that no user and no group has
+-- The highest number of the pool that no user and no group has. It is at most 4294967294.
 abbrev pub free_number : (ℕ → Bool) → Ids → Ids → Option ℕ
 free_number pooled users groups = free_below pooled users groups 4294967295

@@ -1,4 +1,4 @@
--- That a run of systemd-sysusers which was stopped is finished by the next (systemd-sysusers(8)).
+-- Account changes are crash-safe (systemd-sysusers(8)).
 use Rattle.std.specs.Prelude.{◌≡◌, ℕ, List, take}
 use Rattle.std.specs.List.{AllByRecursion}
 use Rattle.pv_requests.specs.Allowed.{IsAllowed}
@@ -11,16 +11,17 @@ use Rattle.pv_sysusers.specs.Accounted.{accounted, day_of, text_at}
 use Rattle.pv_layers.specs.Places.{group_path, passwd_path}
 use Rattle.pv_sysusers.specs.FileWriting.{gshadow_path}
 
--- a tree that a run at a moment leaves, and that of a run at an earlier one: /etc/group, /etc/gshadow and /etc/passwd have
--- the same texts, and on one day the trees are the same, timestamps and staging names aside; the day stands in /etc/shadow
+-- Two trees that runs at two times leave. `/etc/group`, `/etc/gshadow` and `/etc/passwd` have the same texts. If both
+-- times are on one day, the trees are the same, timestamps and staging names aside. The day is written in
+-- `/etc/shadow`.
 pub record EndAlike (now later : ℕ) (t u : Files) : Type 0 where
   pub group : text_at (places u) group_path ≡ text_at (places t) group_path
   pub gshadow : text_at (places u) gshadow_path ≡ text_at (places t) gshadow_path
   pub passwd : text_at (places u) passwd_path ≡ text_at (places t) passwd_path
   pub same : day_of later ≡ day_of now → Same u t
 
--- steps of a run from a tree: stopped after any of them, it is finished by a complete run of the same lines from there, at any
--- moment. The lines have only names, IDs, paths and texts that are allowed
+-- A run of allowed lines is stopped after any number n of its steps. Then a complete run of the same lines over the
+-- tree at the stop, at any time, ends like one complete run from the start, as `EndAlike` says.
 abbrev pub Recovers : List Request → ℕ → Files → List Step → Type 0
 Recovers requests now t steps = (n later : ℕ) → AllByRecursion IsAllowed requests →
     EndAlike now later (accounted requests now t) (accounted requests later (after_all t (take n steps) now))

@@ -3,7 +3,7 @@ use Rattle.std.specs.Prelude.{List, [], ◌∷◌}
 use Rattle.pv_accounts.specs.InUse.{Ids}
 use Rattle.pv_sysusers.specs.declared.users.NewUser.{NewUser}
 
--- the names and numbers of new users
+-- The names and UIDs of new users.
 abbrev pub ids_made : List NewUser → Ids
 ids_made [] = []
 ids_made (user ∷ users) = (user.account.name, user.uid) ∷ ids_made users

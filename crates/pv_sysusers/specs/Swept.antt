@@ -6,7 +6,7 @@ use Rattle.pv_steps.specs.Trees.{Files, places, IsAbsentIn}
 use Rattle.pv_sysusers.specs.Accounted.{lacking_at, unusable_texts}
 use Rattle.pv_sysusers.specs.FileWriting.{swept_names}
 
--- a run that began with one tree has left another: where each account file could be used and a number was left for each
--- name, nothing stands at the staging names of /etc and of the account files
+-- After a run, nothing is left at the staging names of `/etc` and of the account files. This holds if each account
+-- file could be used, and a number was left for each name.
 abbrev pub LeavesNoStagingName : List Request → ℕ → Files → Files → Type 0
 LeavesNoStagingName requests now t u = unusable_texts (places t) ≡ [] → lacking_at requests now (places t) ≡ None → AllByRecursion (IsAbsentIn (places u)) swept_names

@@ -1,18 +1,18 @@
-//! Why a run gave up.
+//! Why a run over a tree gave up.
 ghost use Rattle.std.specs.Prelude.{◌≡◌};
 ghost use Rattle.pv_sysusers.specs.declared.accounts_fault.AccountsFault.TheVariants.{Memory};
 
 use pv_path::Bytes;
 use std::alloc::{AllocError, AllocFailed};
 
-/// Why a run gave up.
+/// The error of [`crate::accounts_run`]: why a run over a tree gave up.
 #[derive(Drop)]
 pub enum AccountsFault {
-    /// No number is left for the user or the group of this name; nothing was done.
+    /// No number is left for the group or the user of this name. No step was done.
     NoFreeId(Bytes),
-    /// The tree refused or could not do a step; its count of faults has risen.
+    /// The tree refused a step, or could not do it, and counted a fault. This was the last step that was asked for.
     Failed,
-    /// Memory ran out.
+    /// Out of memory. Some steps may have been done.
     Memory,
 }
 

@@ -2,13 +2,13 @@
 use pv_path::{Bytes, TreePath};
 use pv_walk::Metadata;
 
-/// The new text of an account file, with all that the file is to have.
+/// The new text of one account file, with the metadata that the new file gets.
 #[derive(Drop)]
 pub struct Edit {
-    /// Where the file stands.
+    /// The path of the file, such as /etc/group.
     pub path: TreePath,
     /// The new text.
     pub text: Bytes,
-    /// Owner, mode, ACL, extended attributes and letters.
+    /// Owners, mode, ACL, extended attributes and file attribute flags.
     pub metadata: Metadata,
 }

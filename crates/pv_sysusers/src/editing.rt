@@ -1,11 +1,11 @@
-//! Which account files get a new text, and what they are to have.
+//! The account files whose texts change, and what their new files get.
 ghost use Rattle.std.specs.Prelude.{◌≡◌, ◌≤◌, ◌++◌, ◌∷◌, true, option_map, unwrap_or, IfOk, OnOk};
 ghost use Rattle.std.specs.Prelude.{[]};
 ghost use Rattle.std.specs.Option.{option_map_or};
 ghost use Rattle.pv_path.specs.Names.{is_name};
 ghost use Rattle.pv_steps.specs.declared.node.Kind.TheVariants.{File};
 ghost use Rattle.pv_steps.specs.Trees.{kind_of, places};
-ghost use Rattle.pv_sysusers.specs.Edits.{etc};
+ghost use Rattle.pv_layers.specs.Places.{etc};
 ghost use Rattle.pv_sysusers.specs.Accounted.{IsUsable, metadata_at, edit_at, edit_to, edits_to, plain_metadata, text_at};
 ghost use Rattle.pv_sysusers.specs.FileWriting.{account_paths};
 ghost use Rattle.std.specs.List.{AllByRecursion};
@@ -19,7 +19,8 @@ use pv_steps::{AttrList, LetterSet, Tree, is_present, special_bits};
 use pv_walk::Metadata;
 use std::alloc::{AllocError, Global};
 
-/// The edits that give the account files new texts, in the order in which they are staged and published.
+/// Returns the edits that give the account files new texts, in the order in which they are staged and renamed into
+/// place.
 pub(crate) fn edits_to<T: Tree>(
     alloc: Global,
     tree: &T,
@@ -36,7 +37,8 @@ pub(crate) fn edits_to<T: Tree>(
     Ok(edits)
 }
 
-/// Adds the edit of a file that is not made anew, where it is there and its text changes.
+/// Adds the edit of a file that is not made if it is absent. Nothing is added if there is no text, or if it does not
+/// change.
 fn add_own_edit<T: Tree>(
     alloc: Global,
     tree: &T,
@@ -57,7 +59,7 @@ fn add_own_edit<T: Tree>(
     }
 }
 
-/// Adds the edit of a file, where its text changes.
+/// Adds the edit of a file, if its text changes.
 fn add_edit<T: Tree>(
     alloc: Global,
     tree: &T,
@@ -81,7 +83,7 @@ fn add_edit<T: Tree>(
     Ok(())
 }
 
-/// The new text of a file, with what it has, or the mode of a new one.
+/// Returns the edit of a file. It keeps the metadata of the old file. A new file belongs to root and has this mode.
 fn edit_to<T: Tree>(
     alloc: Global,
     tree: &T,
@@ -99,7 +101,7 @@ fn edit_to<T: Tree>(
     })
 }
 
-/// The text of the file at a path; an absent one counts as empty.
+/// Returns the text of the file at a path. An absent file counts as empty.
 pub(crate) fn text_at<'a, T: Tree>(tree: &'a T, path: &TreePath) -> &'a [u8]
     requires { IsUsable (places (T.state tree.now)) path.now }
     ensures { result.now ≡ unwrap_or (text_at (places (T.state tree.now)) path.now) [] }
@@ -110,7 +112,7 @@ pub(crate) fn text_at<'a, T: Tree>(tree: &'a T, path: &TreePath) -> &'a [u8]
     }
 }
 
-/// The text of the file at a path, where one stands.
+/// Returns the text of the file at a path, or `None` if it is absent.
 pub(crate) fn own_text<'a, T: Tree>(tree: &'a T, path: &TreePath) -> Option<&'a [u8]>
     requires { IsUsable (places (T.state tree.now)) path.now }
     ensures { option_map (λ text. text.now) result ≡ text_at (places (T.state tree.now)) path.now }
@@ -122,7 +124,7 @@ pub(crate) fn own_text<'a, T: Tree>(tree: &'a T, path: &TreePath) -> Option<&'a 
     }
 }
 
-/// What the file at a path has, or a new one is to have.
+/// Returns the metadata of the file at a path. If it is absent, the metadata is that of a new file of this mode.
 fn metadata_at<T: Tree>(
     alloc: Global,
     tree: &T,
@@ -133,19 +135,12 @@ fn metadata_at<T: Tree>(
     ensures { IfOk result (λ metadata. metadata ≡ metadata_at (places (T.state tree.now)) path.now mode) }
 {
     match tree.look(path) {
-        Some(node) => Ok(Metadata {
-            uid: node.uid,
-            gid: node.gid,
-            special: node.special,
-            acl: node.acl.copy()?,
-            attrs: node.attrs.copy()?,
-            letters: node.letters,
-        }),
+        Some(node) => Metadata::of(node),
         None => Ok(plain_metadata(alloc, mode)),
     }
 }
 
-/// What a new file of root's with a mode is to have.
+/// Returns the metadata of a new file that belongs to root and has this mode.
 fn plain_metadata(alloc: Global, mode: u16) -> Metadata
     requires { mode ≤ 4095 }
     ensures { result ≡ plain_metadata mode }

@@ -10,21 +10,23 @@ ghost use Rattle.pv_walk.specs.Edits.{SameOutside};
 ghost use Rattle.pv_walk.specs.Preparing.{parent_file, with_parent};
 ghost use Rattle.pv_walk.specs.Putting.{IsPutStep, Putting};
 ghost use Rattle.pv_walk.specs.Staging.{count_at_all, new_object, GivesNew};
-ghost use Rattle.pv_sysusers.specs.Edits.{AreEdits, IsFree, etc, most_edited, with_edit};
+ghost use Rattle.pv_sysusers.specs.Edits.{AreEdits, IsFree, most_edited, with_edit};
+ghost use Rattle.pv_layers.specs.Places.{etc};
 ghost use Rattle.pv_sysusers.specs.FileWriting.{AccountWay, IsAccountStep, IsEditOf, PutsDirectory, carried_out, directory_steps, most_directory, most_put, swept_names};
 ghost use Rattle.pv_sysusers.specs.Turns.{InTurn, NoneComes, TurnWay};
 
 use crate::edit::Edit;
-use crate::paths::directory;
 use crate::publishing::publish_all;
 use crate::staging::stage_all;
 use crate::sweeping::sweep_all;
+use pv_layers::etc_path;
 use pv_path::{TreePath, staging};
 use pv_steps::{Step, Tree, TreeFault, is_present, try_step};
 use pv_walk::publish;
 use std::alloc::Global;
 
-/// Takes away what earlier runs have staged, and puts the new texts of files at their paths: all are staged first.
+/// Removes what earlier runs have staged, and then puts the new texts at their paths. All files are staged before the
+/// first one is renamed into place.
 pub(crate) fn write_account_files<T: Tree>(
     alloc: Global,
     tree: &mut T,
@@ -47,7 +49,7 @@ pub(crate) fn write_account_files<T: Tree>(
     }
 }
 
-/// Puts the new texts of files at their paths, and their directory if it is absent.
+/// Puts the new texts of files at their paths. It first makes /etc, if that is absent.
 fn put_all<T: Tree>(alloc: Global, tree: &mut T, edits: &[Edit], now: u64) -> Result<(), TreeFault>
     requires some { 1 ≤ length edits.now }
     requires edits { AreEdits edits.now }
@@ -66,7 +68,7 @@ fn put_all<T: Tree>(alloc: Global, tree: &mut T, edits: &[Edit], now: u64) -> Re
     publish_all(alloc, tree, edits, now)
 }
 
-/// Puts the directory of the account files, if it is absent, as a parent is put.
+/// Makes /etc if it is absent, as a parent directory is made: it belongs to root and has the mode 0755.
 fn put_directory<T: Tree>(alloc: Global, tree: &mut T, now: u64) -> Result<(), TreeFault>
     requires pass { IsPresent (T.state tree.old) etc → IsKind Directory (T.state tree.old) etc }
     requires free { IsAbsentIn (places (T.state tree.old)) (staging_of etc) }
@@ -77,14 +79,14 @@ fn put_directory<T: Tree>(alloc: Global, tree: &mut T, now: u64) -> Result<(), T
     ensures below { Acted T.Tree (NoneComes (T.state tree.old)) (PutsDirectory (T.state tree.old))
         (directory_steps (places (T.state tree.old))) now tree.old tree.new result }
 {
-    let path = directory(alloc)?;
+    let path = etc_path(alloc)?;
     if is_present(tree, &path) {
         return Ok(());
     }
     make_directory(alloc, tree, &path, now)
 }
 
-/// Puts the directory of the account files where nothing stands, in three steps.
+/// Makes the absent /etc in three steps.
 fn make_directory<T: Tree>(
     alloc: Global,
     tree: &mut T,
@@ -104,7 +106,7 @@ fn make_directory<T: Tree>(
     publish(alloc, tree, path, now)
 }
 
-/// Makes the directory of the account files under its staging name, in the mode that it is to have.
+/// Makes /etc under its staging name, with its mode.
 fn stage_directory<T: Tree>(
     alloc: Global,
     tree: &mut T,

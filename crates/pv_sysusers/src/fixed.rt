@@ -9,21 +9,21 @@ use pv_text::Place;
 use std::alloc::{AllocError, Global};
 use std::collections::HashMap;
 
-/// For each group the number that the first line fixes for it, and where that line stands.
+/// For each group, the number that the first line with a number fixes for it, and the location of this line.
 #[derive(Drop)]
 pub struct Fixed<'a> {
     numbers: HashMap<&'a [u8], (u32, &'a Place)>,
 }
 
 impl<'a> Fixed<'a> {
-    /// The number that is fixed for a name.
+    /// Returns the number that is fixed for a group, with the location of the line, or `None` if none is fixed.
     pub(crate) fn of(&self, name: &[u8]) -> Option<(u32, &'a Place)>
         ensures { option_map (λ f. (f.0, f.1.now)) result ≡ fixed_by self.now name.now }
     {
         self.numbers.get(name).copied()
     }
 
-    /// Whether a number is fixed for a name.
+    /// Returns whether a number is fixed for a group.
     fn has(&self, name: &[u8]) -> bool
         ensures { result ≡ is_some (fixed_by self.now name.now) }
     {
@@ -33,7 +33,7 @@ impl<'a> Fixed<'a> {
         }
     }
 
-    /// Adds what a line fixes, where no earlier one does.
+    /// Adds the number that a line fixes, unless an earlier line fixes one for this group.
     fn add(&mut self, need: &'a Need) -> Result<(), AllocError>
         ensures { OnOk result ((name : List ℕ) → fixed_by self.new name ≡ option_or (fixed_by self.old name) (fixed_for (need.entry.now ∷ []) name)) }
     {
@@ -49,7 +49,7 @@ impl<'a> Fixed<'a> {
     }
 }
 
-/// What lines fix.
+/// Returns what lines fix.
 pub(crate) fn fixed_in(alloc: Global, needs: &[Need]) -> Result<Fixed<'_>, AllocError>
     ensures { IfOk result (λ fixed. (name : List ℕ) → fixed_by fixed name ≡ fixed_for needs.entry.now name) }
 {

@@ -13,16 +13,16 @@ use pv_path::{Bytes, add_printed};
 use pv_text::{Messages, Place};
 use std::alloc::{AllocError, Global};
 
-/// The groups with those that are new.
+/// All groups, and which of them are new.
 #[derive(Drop)]
 pub struct Groups<'a> {
-    /// All groups with their numbers.
+    /// The names and GIDs of all groups.
     pub all: InUse<'a>,
-    /// The new ones.
+    /// The new groups, each with its name and GID.
     pub made: Vec<(Bytes, u32)>,
 }
 
-/// Says that a fixed number is in use.
+/// Adds the message that a number that a line fixes is in use.
 pub(crate) fn say_in_use(
     alloc: Global,
     place: &Place,
@@ -39,7 +39,8 @@ pub(crate) fn say_in_use(
     new_messages.push_at(place, &text)
 }
 
-/// The number that a line fixes for a group, where the group may get it, or else the next one of the pool.
+/// Returns the number that a line fixes for a group, if the group may get it. Otherwise, it adds a message and returns
+/// the next number of the pool, if there is one.
 fn fixed_or_next(
     alloc: Global,
     supply: &Supply<'_>,
@@ -63,7 +64,7 @@ fn fixed_or_next(
     }
 }
 
-/// The number that a group gets, if there is one.
+/// Returns the number that a group gets, or `None` if none is left.
 fn group_number(
     alloc: Global,
     supply: &Supply<'_>,
@@ -83,7 +84,7 @@ fn group_number(
     }
 }
 
-/// Adds a new group to those that are made.
+/// Adds a new group to the new ones.
 fn add_made(made: &mut Vec<(Bytes, u32)>, name: &Bytes, n: u32) -> Result<(), AllocError>
     ensures { OnOk result (made.new.items ≡ made.old.items ++ (name.now, n) ∷ []) }
 {
@@ -92,7 +93,7 @@ fn add_made(made: &mut Vec<(Bytes, u32)>, name: &Bytes, n: u32) -> Result<(), Al
 }
 
 impl<'a> Groups<'a> {
-    /// The groups with one more, which is new.
+    /// Adds one new group.
     fn with(self, name: &'a Bytes, n: u32) -> Result<Self, AllocError>
         requires { id_of self.all name.now ≡ None }
         ensures all { IfOk result (λ groups. groups.all ≡ self.entry.all ++ (name.entry.now, n) ∷ []) }
@@ -105,7 +106,7 @@ impl<'a> Groups<'a> {
     }
 }
 
-/// The number that a needed group gets, or the fault that there is none.
+/// Returns the number that a needed group gets, or the error that none is left.
 fn needed_number(
     alloc: Global,
     supply: &Supply<'_>,
@@ -128,7 +129,8 @@ fn needed_number(
     }
 }
 
-/// The groups that lines need, decided in order: one that is there keeps its number.
+/// Decides the groups that lines need, in order, and returns all groups and the new ones. A group that is there keeps
+/// its number.
 pub(crate) fn decided_groups<'a>(
     alloc: Global,
     wanted: &'a Wanted,

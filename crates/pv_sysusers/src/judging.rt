@@ -1,7 +1,7 @@
-//! Account files that cannot be used, and what is said of them.
+//! Account files that cannot be used, and the messages about them.
 ghost use Rattle.std.specs.Prelude.{◌≡◌, ◌++◌, ◌∷◌, ◌<◌, ◌^◌, [], true, length, IfOk, OnOk};
 ghost use Rattle.pv_path.specs.Names.{is_name};
-ghost use Rattle.pv_sysusers.specs.Edits.{etc};
+ghost use Rattle.pv_layers.specs.Places.{etc};
 ghost use Rattle.pv_steps.specs.Trees.{kind_of, places};
 ghost use Rattle.pv_sysusers.specs.Accounted.{other_text, unusable_text, unusable_texts};
 
@@ -13,7 +13,7 @@ use pv_text::Messages;
 use pv_walk::{Walked, walk};
 use std::alloc::{AllocError, Global};
 
-/// What is said of account files that cannot be used, in the order in which they are staged.
+/// Returns the messages about account files that cannot be used, in the order group, gshadow, shadow, passwd.
 pub(crate) fn unusable_texts<T: Tree>(alloc: Global, tree: &T) -> Result<Messages, AllocError>
     ensures { IfOk result (λ new_messages. new_messages ≡ unusable_texts (places (T.state tree.now))) }
 {
@@ -25,7 +25,7 @@ pub(crate) fn unusable_texts<T: Tree>(alloc: Global, tree: &T) -> Result<Message
     Ok(new_messages)
 }
 
-/// Says of an account file by its name in /etc why it cannot be used, where it cannot.
+/// Adds a message if the account file of this name in /etc cannot be used.
 fn judge_file<T: Tree>(
     alloc: Global,
     tree: &T,
@@ -39,7 +39,7 @@ fn judge_file<T: Tree>(
     judge(alloc, tree, &path, new_messages)
 }
 
-/// Says of a path why the object there cannot be used, if it cannot.
+/// Adds a message if the path is not safe to walk, or if the object there is not a regular file.
 fn judge<T: Tree>(
     alloc: Global,
     tree: &T,
@@ -55,7 +55,7 @@ fn judge<T: Tree>(
     }
 }
 
-/// Says that something else than a file stands at a path, where it does.
+/// Adds a message if the object at a path is not a regular file.
 fn say_other<T: Tree>(
     alloc: Global,
     tree: &T,

@@ -1,4 +1,4 @@
-//! Laws of plans made again. Each function does nothing; its contract is the law.
+//! Laws of plans that are made again. Each function does nothing, and its contract is the law.
 ghost use Rattle.std.specs.Prelude.{◌≡◌, ◌<◌, ◌^◌, ◌++◌, ℕ, Bool, List, Option, None, Ok};
 ghost use Rattle.std.specs.List.{AllByRecursion};
 ghost use Rattle.pv_requests.specs.declared.request.Request.{Request as RequestValue};
@@ -16,25 +16,38 @@ ghost use Rattle.pv_sysusers.specs.Groups.{decided_groups, no_groups};
 ghost use Rattle.pv_sysusers.specs.Users.{decided_users, no_users};
 ghost use Rattle.pv_sysusers.specs.Settled.{ids_made};
 
-/// Once the new groups are there, deciding again makes none and says nothing, whatever the users, the fixed numbers and
-/// the pool are then.
+/// States that groups that are there stay: if new groups were decided and added, deciding again makes none and gives no
+/// message.
+///
+/// This holds whatever the users, the fixed numbers and the pool are then. The premise is that a number was left for
+/// each group.
 pub fn groups_that_are_there_stay()
     ensures { (pooled again : ℕ → Bool) (users later : Ids) (fixed then : List ℕ → Option (ℕ × PlaceValue)) (groups : Ids) (needs : List NeedValue) →
         (decided_groups pooled users fixed groups needs).lacking ≡ None →
         decided_groups again later then (groups ++ (decided_groups pooled users fixed groups needs).made) needs ≡ no_groups }
 {}
 
-/// Once the new users are there, deciding again makes none and says nothing, whatever the groups and the pool are then.
+/// States that users that are there stay: if new users were decided and added, deciding again makes none and gives no
+/// message.
+///
+/// This holds whatever the groups and the pool are then. The premise is that a number was left for each user.
 pub fn users_that_are_there_stay()
     ensures { (pooled again : ℕ → Bool) (groups later users : Ids) (accounts : List AccountValue) →
         (decided_users pooled groups users accounts).lacking ≡ None →
         decided_users again later (users ++ ids_made (decided_users pooled groups users accounts).made) accounts ≡ no_users }
 {}
 
-/// A plan recovers. Suppose that an earlier run was stopped among the account files. Some of them are new and the
-/// others as they were, and /etc/passwd is new only if all are. Then a plan of the same lines gives the texts that were
-/// planned. That of /etc/shadow, which holds the day, is the same on the same day, and if it is already written. The
-/// lines have only names, IDs and texts that are allowed.
+/// States that a plan recovers: a plan of the same lines, made from the files that a stopped run left, gives the texts
+/// that were planned.
+///
+/// The premises are these:
+///
+/// - The lines have only names, IDs, paths and texts that are allowed, and all owners are IDs.
+/// - The first plan gave texts.
+/// - Each file now has its old text or its planned one, and /etc/passwd has its planned text only if all files have.
+///
+/// The text of /etc/shadow holds the day. It is the planned text if the day is the same, or if the file already has its
+/// planned text.
 pub fn a_plan_among_new_files_gives_the_same_texts()
     ensures { (requests : List RequestValue) (taken : List (Option PathIdValue)) (files again : AccountFiles) (day later : ℕ) (texts : TextsValue) →
         AllByRecursion IsAllowed requests → AllByRecursion AreOwners taken → day < 2 ^ 64 →

@@ -1,5 +1,6 @@
-//! What a run of systemd-sysusers makes of the account files (sysusers.d(5), systemd-sysusers(8)): the plan, and the run
-//! over a tree that reads, stages and publishes the files.
+//! What systemd-sysusers does with /etc/passwd, /etc/group, /etc/shadow and /etc/gshadow (sysusers.d(5),
+//! systemd-sysusers(8)). [`plan`] computes the new texts of these files. [`accounts_run`] reads the files of a tree,
+//! stages the new texts and renames them into place.
 #![tactic(auto)]
 
 mod accounts_fault;

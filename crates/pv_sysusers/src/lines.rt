@@ -1,4 +1,4 @@
-//! The lines that count, and what is said of those that do not.
+//! The effective lines of a configuration: of several u lines of one user, the first one (sysusers.d(5)).
 ghost use Rattle.std.specs.Prelude.{◌≡◌, [], ◌++◌, ◌∷◌, None, Some, IfOk, OnOk};
 ghost use Rattle.std.specs.Option.{option_map};
 ghost use Rattle.pv_sysusers.specs.Lines.{counting, duplicate_message, first_user, lines_from, owners_at, place_of, messages_again, duplicate_messages, user_of, with_counting};
@@ -11,19 +11,19 @@ use pv_text::{Messages, Place};
 use std::alloc::{AllocError, Global};
 use std::collections::HashMap;
 
-/// A request, with the owner and the owning group of the object at its path, if there is one.
+/// A request, with the owners of the object at its path, if they are known.
 pub(crate) type Line<'a> = (&'a Request, Option<PathId>);
 
-/// The lines that count, with the first u line of each user.
+/// The effective lines of a configuration. The first u line of each user can be looked up by the user's name.
 #[derive(Drop)]
 pub struct Lines<'a> {
-    /// The lines, in order.
+    /// The lines, in their order.
     pub kept: Vec<Line<'a>>,
-    /// The u line of each user.
+    /// The first u line of each user.
     users: HashMap<&'a [u8], &'a Request>,
 }
 
-/// The user that a u line names.
+/// Returns the user that a u line names, or `None` if the line is of another type.
 fn user_of(request: &Request) -> Option<&[u8]>
     ensures { option_map (λ name. name.now) result ≡ user_of request.now }
 {
@@ -33,7 +33,7 @@ fn user_of(request: &Request) -> Option<&[u8]>
     }
 }
 
-/// Where a request stands.
+/// Returns the location of a request: its file and line.
 fn place_of(request: &Request) -> &Place
     ensures { result.now ≡ place_of request.now }
 {
@@ -45,7 +45,7 @@ fn place_of(request: &Request) -> &Place
     }
 }
 
-/// The owners at an index of a list, if they are known.
+/// Returns the owners at an index, counted from 0, or `None` if they are not known.
 fn owners_at(taken: &PathIds, i: usize) -> Option<PathId>
     ensures { result ≡ owners_at taken.now i }
 {
@@ -55,7 +55,7 @@ fn owners_at(taken: &PathIds, i: usize) -> Option<PathId>
     }
 }
 
-/// Says that a u line comes again.
+/// Adds the message that a u line comes again.
 fn say_duplicate(
     alloc: Global,
     line: &Request,
@@ -70,7 +70,7 @@ fn say_duplicate(
 }
 
 impl<'a> Lines<'a> {
-    /// No lines.
+    /// Returns an empty list of lines.
     fn new(alloc: Global) -> Self
         ensures kept { shown result.kept.items ≡ [] }
         ensures index { IsIndexed result }
@@ -81,7 +81,7 @@ impl<'a> Lines<'a> {
         }
     }
 
-    /// The first u line of a user.
+    /// Returns the first u line of a user, or `None` if there is none.
     pub(crate) fn first_user(&self, name: &[u8]) -> Option<&'a Request>
         requires { IsIndexed self.now }
         ensures { option_map (λ line. line.now) result ≡ first_user (shown self.now.kept.items) name.now }
@@ -89,7 +89,7 @@ impl<'a> Lines<'a> {
         self.users.get(name).copied()
     }
 
-    /// Adds a line that is no u line.
+    /// Adds a line that is not a u line.
     fn add_other(&mut self, line: Line<'a>) -> Result<(), AllocError>
         requires index { IsIndexed self.old }
         requires other { user_of (shown_line line).0 ≡ None }
@@ -113,7 +113,8 @@ impl<'a> Lines<'a> {
         Ok(())
     }
 
-    /// Adds a line, where it counts; says where it does not and differs from the one that does.
+    /// Adds a line if it is effective. Otherwise, it adds a message if the line asks for something other than the
+    /// effective one.
     fn add(
         &mut self,
         alloc: Global,
@@ -138,7 +139,7 @@ impl<'a> Lines<'a> {
     }
 }
 
-/// The lines of requests that count, and what is said of those that do not.
+/// Returns the effective lines of requests, and adds the messages about repeated lines.
 pub(crate) fn effective_lines<'a>(
     alloc: Global,
     requests: &'a RequestList,

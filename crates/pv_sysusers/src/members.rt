@@ -1,4 +1,4 @@
-//! New members of groups: the file is cut into its lines once for all of them (group(5), gshadow(5)).
+//! New members of groups (group(5), gshadow(5)). The file is cut into its lines once for all of them.
 ghost use Rattle.std.specs.Prelude.{◌≡◌, ◌++◌, ℕ, List, [], ◌∷◌, false, true, None, Some, cond, map, IfOk, OnOk};
 ghost use Rattle.std.specs.List.{flat_map, list_all};
 ghost use Rattle.std.specs.Option.{option_map_or, option_or};
@@ -18,19 +18,19 @@ use pv_requests::{Request, is_account_name};
 use std::alloc::{AllocError, Global};
 use std::collections::HashMap;
 
-/// A group and a user who becomes a member of it.
+/// A group, and a user that becomes a member of it.
 pub(crate) type Member<'a> = (&'a [u8], &'a [u8]);
 
-/// The lines of a file, of which the entries are looked up by their names without a pass over all.
+/// The lines of an account file. The first entry of a name is found without a pass over all lines.
 #[derive(Drop)]
 pub struct MemberLines<'a> {
-    /// The lines, without their ends.
+    /// The lines, without their line feeds.
     lines: Vec<Vec<u8>>,
-    /// The place of the first entry of each name.
+    /// The index of the first entry of each name, counted from 0.
     places: HashMap<&'a [u8], usize>,
 }
 
-/// The name of the entry that a line is, if it is one.
+/// Returns the name of the entry that a line is, or `None` if the line is not an entry.
 fn name_in<'a>(kind: Kind, line: &'a [u8]) -> Option<&'a [u8]>
     requires members { has_members kind ≡ true }
     requires whole { lacks_end line.now ≡ true }
@@ -42,7 +42,7 @@ fn name_in<'a>(kind: Kind, line: &'a [u8]) -> Option<&'a [u8]>
 }
 
 impl<'a> MemberLines<'a> {
-    /// No lines.
+    /// Returns an empty list of lines.
     fn new(alloc: Global) -> Self
         ensures lines { lines_held result ≡ [] }
         ensures places { (name : List ℕ) → place_found result name ≡ None }
@@ -53,14 +53,14 @@ impl<'a> MemberLines<'a> {
         }
     }
 
-    /// The place of the first entry of a name.
+    /// Returns the index of the first entry of a name, or `None` if there is none.
     fn place(&self, name: &[u8]) -> Option<usize>
         ensures { result ≡ place_found self.now name.now }
     {
         self.places.get(name).copied()
     }
 
-    /// Notes the place of a name, where none is known.
+    /// Notes the index of a name, unless one is known already.
     fn note(&mut self, name: &'a [u8], at: usize) -> Result<(), AllocError>
         ensures places { OnOk result ((other : List ℕ) →
             place_found self.new other ≡ option_or (place_found self.old other) (cond (bytes_eq name.entry.now other) (Some at) None)) }
@@ -75,7 +75,7 @@ impl<'a> MemberLines<'a> {
         }
     }
 
-    /// Notes the place of a line, if it is the first entry of its name.
+    /// Notes the index of a line, if the line is the first entry of its name.
     fn note_line(&mut self, kind: Kind, line: &'a [u8], at: usize) -> Result<(), AllocError>
         requires members { has_members kind ≡ true }
         requires whole { lacks_end line.now ≡ true }
@@ -103,7 +103,7 @@ impl<'a> MemberLines<'a> {
         Ok(())
     }
 
-    /// The lines of a file.
+    /// Cuts a file into its lines.
     fn of(alloc: Global, kind: Kind, file: &'a [u8]) -> Result<Self, AllocError>
         requires { has_members kind ≡ true }
         ensures lines { IfOk result (λ held. lines_held held ≡ lines_of file.entry.now) }
@@ -113,7 +113,7 @@ impl<'a> MemberLines<'a> {
         MemberLines::of_lines(alloc, kind, &lines)
     }
 
-    /// Lines without line ends in them.
+    /// Takes lines that have no line feed in them.
     fn of_lines(alloc: Global, kind: Kind, lines: &[&'a [u8]]) -> Result<Self, AllocError>
         requires members { has_members kind ≡ true }
         requires whole { list_all lacks_end (map (λ line. line.now) lines.now) ≡ true }
@@ -127,7 +127,7 @@ impl<'a> MemberLines<'a> {
         Ok(held)
     }
 
-    /// Adds a user at the end of the members of the entry at a place, where he is not among them.
+    /// Adds a user at the end of the members of the entry at an index, unless the user is one of them already.
     fn lengthen(
         &mut self,
         alloc: Global,
@@ -147,7 +147,7 @@ impl<'a> MemberLines<'a> {
         Ok(())
     }
 
-    /// Adds a user at the end of the members of the first entry of a group, where he is not among them.
+    /// Adds a user at the end of the members of the first entry of a group, unless the user is one of them already.
     fn add(&mut self, alloc: Global, kind: Kind, member: Member<'_>) -> Result<(), AllocError>
         requires members { has_members kind ≡ true }
         requires account { is_account_name member.1.now ≡ true }
@@ -164,7 +164,7 @@ impl<'a> MemberLines<'a> {
     }
 }
 
-/// The text of lines: line ends between them.
+/// Returns the text of lines: line feeds between them.
 fn joined(alloc: Global, lines: &[Vec<u8>]) -> Result<Vec<u8>, AllocError>
     ensures { IfOk result (λ text. text.items ≡ text_of (map (λ line. line.items) lines.entry.now)) }
 {
@@ -178,7 +178,7 @@ fn joined(alloc: Global, lines: &[Vec<u8>]) -> Result<Vec<u8>, AllocError>
     }
 }
 
-/// Adds lines, each after the end of the one before.
+/// Adds lines to a text, each after a line feed.
 fn add_lines(text: &mut Vec<u8>, lines: &[Vec<u8>]) -> Result<(), AllocError>
     ensures { OnOk result (text.new.items ≡ text.old.items ++ flat_map (λ line. 10 ∷ line.items) lines.now) }
 {
@@ -189,7 +189,7 @@ fn add_lines(text: &mut Vec<u8>, lines: &[Vec<u8>]) -> Result<(), AllocError>
     Ok(())
 }
 
-/// A file with users who have names of accounts among the members of their groups, in order.
+/// Adds users to their groups, in order. The file is cut once: each user has the name of an account.
 fn with_accounts(
     alloc: Global,
     kind: Kind,
@@ -207,8 +207,8 @@ fn with_accounts(
     joined(alloc, &held.lines)
 }
 
-/// A file with users among the members of their groups, in order. It is cut anew for each, since a user whose name is not that of
-/// an account can begin a line.
+/// Adds users to their groups, in order. The file is cut anew for each one, since a user with another name can begin a
+/// line.
 fn with_any(
     alloc: Global,
     kind: Kind,
@@ -225,14 +225,14 @@ fn with_any(
     Ok(text)
 }
 
-/// Whether each user has the name of an account.
+/// Returns whether each user has the name of an account.
 fn are_accounts(members: &[Member<'_>]) -> bool
     ensures { result ≡ are_accounts members.now }
 {
     members.iter().all(|member| is_account_name(member.1))
 }
 
-/// Adds the group and the user of an m line.
+/// Adds the group and the user of a line, if it is an m line.
 fn add_membership<'a>(members: &mut Vec<Member<'a>>, line: Line<'a>) -> Result<(), AllocError>
     ensures { OnOk result (pairs_of members.new.items ≡ pairs_of members.old.items ++ membership_of (shown_line line.entry)) }
 {
@@ -242,7 +242,7 @@ fn add_membership<'a>(members: &mut Vec<Member<'a>>, line: Line<'a>) -> Result<(
     Ok(())
 }
 
-/// The groups and the users of m lines.
+/// Returns the groups and the users of m lines.
 fn memberships_of<'a>(alloc: Global, lines: &[Line<'a>]) -> Result<Vec<Member<'a>>, AllocError>
     ensures { IfOk result (λ members. pairs_of members.items ≡ flat_map membership_of (shown lines.now)) }
 {
@@ -253,7 +253,7 @@ fn memberships_of<'a>(alloc: Global, lines: &[Line<'a>]) -> Result<Vec<Member<'a
     Ok(members)
 }
 
-/// A file with each user of an m line among the members of his group, in order.
+/// Returns a file in which each user of an m line is a member of its group. They are added in the order of the lines.
 pub(crate) fn with_memberships(
     alloc: Global,
     kind: Kind,

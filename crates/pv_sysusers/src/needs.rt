@@ -1,4 +1,4 @@
-//! The groups and the users that lines need, and the numbers that they fix.
+//! The groups and the users that lines need, and the numbers that they fix (sysusers.d(5)).
 ghost use Rattle.std.specs.Prelude.{◌≡◌, [], ◌∷◌, ◌++◌, IfOk, OnOk};
 ghost use Rattle.std.specs.List.{flat_map};
 ghost use Rattle.std.specs.Option.{option_map};
@@ -19,20 +19,20 @@ use std::alloc::{AllocError, Global};
 pub struct Need {
     /// The name of the group.
     pub name: Bytes,
-    /// The number that the line fixes for it.
+    /// The GID that the line fixes for it, if it fixes one.
     pub number: Option<u32>,
-    /// Where the line stands.
+    /// The location of the line.
     pub place: Place,
 }
 
 /// The primary group of a user.
 #[derive(Drop)]
 pub enum Main {
-    /// The group of the user's name.
+    /// The group that has the user's name.
     Own,
-    /// The group of a number.
+    /// The group that has this GID.
     Gid(u32),
-    /// The group of a name.
+    /// The group that has this name.
     Named(Bytes),
 }
 
@@ -41,24 +41,24 @@ pub enum Main {
 pub struct Account {
     /// The name of the user.
     pub name: Bytes,
-    /// The number that the line fixes for him.
+    /// The UID that the line fixes for the user, if it fixes one.
     pub uid: Option<u32>,
-    /// His primary group.
+    /// The primary group.
     pub main: Main,
-    /// Whether nobody may log in by the account at all.
+    /// Whether the account is locked (`u!`): nobody can log in by it.
     pub locked: bool,
-    /// The full name or another comment, if one is given.
+    /// The fifth field of passwd(5), such as the full name, if it is given.
     pub gecos: Option<Bytes>,
-    /// The home directory, if one is given.
+    /// The home directory, if it is given.
     pub home: Option<Bytes>,
-    /// The login shell, if one is given.
+    /// The login shell, if it is given.
     pub shell: Option<Bytes>,
-    /// Where the line stands.
+    /// The location of the line.
     pub place: Place,
 }
 
 impl Main {
-    /// A copy of the primary group.
+    /// Returns a copy of the primary group.
     fn copy(&self) -> Result<Main, AllocError>
         ensures { IfOk result (λ main. main ≡ self.now) }
     {
@@ -71,7 +71,7 @@ impl Main {
 }
 
 impl Account {
-    /// A copy of the user.
+    /// Returns a copy of the user.
     pub(crate) fn copy(&self) -> Result<Account, AllocError>
         ensures { IfOk result (λ account. account ≡ self.now) }
     {
@@ -83,7 +83,7 @@ impl Account {
         Ok(account)
     }
 
-    /// A user of whom no more is asked than that he is there.
+    /// Returns a user of this name for whom nothing more is asked.
     fn plain(name: &Bytes, place: &Place) -> Result<Account, AllocError>
         ensures { IfOk result (λ account. account ≡ plain_account name.now place.now) }
     {
@@ -100,7 +100,7 @@ impl Account {
         })
     }
 
-    /// Gives the user these texts.
+    /// Sets the GECOS text, the home directory and the shell of the user.
     fn set_texts(
         &mut self,
         gecos: &Option<Bytes>,
@@ -116,7 +116,7 @@ impl Account {
     }
 }
 
-/// Whether an m line has its user made: he has no entry, and no u line names him.
+/// Returns whether an m line makes its user: the user has no entry, and no u line names it.
 fn is_made(users: &InUse<'_>, lines: &Lines<'_>, name: &[u8]) -> bool
     requires { IsIndexed lines.now }
     ensures { result ≡ is_made users.now (shown lines.now.kept.items) name.now }
@@ -125,7 +125,7 @@ fn is_made(users: &InUse<'_>, lines: &Lines<'_>, name: &[u8]) -> bool
     users.id_of(name).is_none() && !named
 }
 
-/// The owning group, where an object is there.
+/// Returns the owning group, or `None` if there is no object.
 fn gid_of(owners: Option<PathId>) -> Option<u32>
     ensures { result ≡ option_map (λ o. o.gid) owners }
 {
@@ -135,7 +135,7 @@ fn gid_of(owners: Option<PathId>) -> Option<u32>
     }
 }
 
-/// The owner, where an object is there.
+/// Returns the owner, or `None` if there is no object.
 fn uid_of(owners: Option<PathId>) -> Option<u32>
     ensures { result ≡ option_map (λ o. o.uid) owners }
 {
@@ -163,7 +163,7 @@ fn add_need(
     Ok(())
 }
 
-/// Adds the group that a u line needs.
+/// Adds the group that a u line needs, if it needs one.
 fn add_user_needs(
     needs: &mut Vec<Need>,
     name: &Bytes,
@@ -184,7 +184,7 @@ fn add_user_needs(
     }
 }
 
-/// The number that a g line fixes.
+/// Returns the GID that a g line fixes, or `None`.
 fn group_number(owners: Option<PathId>, id: &GroupId) -> Option<u32>
     ensures { result ≡ group_number owners id.now }
 {
@@ -195,7 +195,7 @@ fn group_number(owners: Option<PathId>, id: &GroupId) -> Option<u32>
     }
 }
 
-/// Adds the groups that an m line needs.
+/// Adds the groups that an m line needs: that of a user that is made, and then the one that it names.
 fn add_member_needs(
     needs: &mut Vec<Need>,
     made: bool,
@@ -241,7 +241,7 @@ fn add_needs(
     }
 }
 
-/// The groups that lines need, in order.
+/// Returns the groups that lines need, in order.
 pub(crate) fn all_needs(
     alloc: Global,
     users: &InUse<'_>,
@@ -258,7 +258,7 @@ pub(crate) fn all_needs(
     Ok(needs)
 }
 
-/// The UID that a u line fixes.
+/// Returns the UID that a u line fixes, or `None`.
 fn user_number(owners: Option<PathId>, id: &UserId) -> Option<u32>
     ensures { result ≡ user_number owners id.now }
 {
@@ -270,7 +270,7 @@ fn user_number(owners: Option<PathId>, id: &UserId) -> Option<u32>
     }
 }
 
-/// The primary group of a user.
+/// Returns the primary group that a u line gives.
 fn main_of(id: &UserId) -> Result<Main, AllocError>
     ensures { IfOk result (λ main. main ≡ main_of id.now) }
 {
@@ -283,7 +283,7 @@ fn main_of(id: &UserId) -> Result<Main, AllocError>
     }
 }
 
-/// A text that may be omitted, once more.
+/// Returns a copy of a text that may be omitted.
 fn copied(text: &Option<Bytes>) -> Result<Option<Bytes>, AllocError>
     ensures { IfOk result (λ copy. copy ≡ text.now) }
 {
@@ -293,7 +293,7 @@ fn copied(text: &Option<Bytes>) -> Result<Option<Bytes>, AllocError>
     }
 }
 
-/// Adds the user of an m line, where he is made.
+/// Adds the user of an m line, if the line makes it.
 fn add_made_user(
     accounts: &mut Vec<Account>,
     made: bool,
@@ -309,7 +309,7 @@ fn add_made_user(
     Ok(())
 }
 
-/// The user of a u line.
+/// Returns the user of a u line, or `None` if the line is of another type.
 fn account_of(line: Line<'_>) -> Result<Option<Account>, AllocError>
     ensures { IfOk result (λ account. account ≡ account_of (shown_line line.entry)) }
 {
@@ -334,7 +334,7 @@ fn account_of(line: Line<'_>) -> Result<Option<Account>, AllocError>
     Ok(Some(account))
 }
 
-/// Adds the users that a line needs.
+/// Adds the user that a line needs, if it needs one.
 fn add_accounts(
     accounts: &mut Vec<Account>,
     users: &InUse<'_>,
@@ -358,7 +358,7 @@ fn add_accounts(
     }
 }
 
-/// The users that lines need, in order.
+/// Returns the users that lines need, in order.
 pub(crate) fn all_accounts(
     alloc: Global,
     users: &InUse<'_>,

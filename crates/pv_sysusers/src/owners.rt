@@ -12,7 +12,8 @@ use pv_steps::Tree;
 use pv_walk::{Walked, walk};
 use std::alloc::{AllocError, Global};
 
-/// For each line the owners of the object at its path, unless the path is absent or refused.
+/// Returns for each line the owners of the object at its path. An item is `None` if the line has no path, or if the
+/// path is absent or not safe to walk.
 pub(crate) fn owners<T: Tree>(
     alloc: Global,
     tree: &T,
@@ -28,7 +29,7 @@ pub(crate) fn owners<T: Tree>(
     Ok(taken)
 }
 
-/// The owners of the object at the path of a line.
+/// Returns the owners of the object at the path of a line, or `None`.
 fn ids_of<T: Tree>(alloc: Global, tree: &T, request: &Request) -> Result<Option<PathId>, AllocError>
     requires { HasFewNames request.now }
     ensures { IfOk result (λ ids. ids ≡ ids_of (places (T.state tree.now)) request.now) }
@@ -39,7 +40,7 @@ fn ids_of<T: Tree>(alloc: Global, tree: &T, request: &Request) -> Result<Option<
     }
 }
 
-/// The path whose object gives the numbers of a line.
+/// Returns the path whose object gives the numbers of a line, or `None` if the line has none.
 fn number_path(request: &Request) -> Option<&TreePath>
     ensures { option_map (λ path. path.now) result ≡ number_path request.now }
 {
@@ -60,7 +61,7 @@ fn number_path(request: &Request) -> Option<&TreePath>
     }
 }
 
-/// The owners of the object at a path, unless the path is refused.
+/// Returns the owners of the object at a path, or `None` if the path is absent or not safe to walk.
 fn ids_at<T: Tree>(alloc: Global, tree: &T, path: &TreePath) -> Result<Option<PathId>, AllocError>
     requires { length path.now < 2 ^ 32 }
     ensures { IfOk result (λ ids. ids ≡ ids_at (places (T.state tree.now)) path.now) }
@@ -71,7 +72,7 @@ fn ids_at<T: Tree>(alloc: Global, tree: &T, path: &TreePath) -> Result<Option<Pa
     }
 }
 
-/// The owners of the object at a path.
+/// Returns the owners of the object at a path, or `None` if the path is absent.
 fn owners_at<T: Tree>(tree: &T, path: &TreePath) -> Option<PathId>
     ensures { result ≡ option_map (λ o. record { uid = o.node.uid; gid = o.node.gid }) (places (T.state tree.now) path.now) }
 {

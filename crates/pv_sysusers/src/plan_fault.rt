@@ -5,12 +5,12 @@ ghost use Rattle.pv_sysusers.specs.declared.plan_fault.PlanFault.TheVariants.{Me
 use pv_path::Bytes;
 use std::alloc::{AllocError, AllocFailed};
 
-/// Why there is no plan.
+/// The error of [`crate::plan`]: why there are no new texts.
 #[derive(Drop)]
 pub enum PlanFault {
-    /// No number is left for the user or the group of this name.
+    /// No number is left for the group or the user of this name: the pool has no number that nobody has.
     NoFreeId(Bytes),
-    /// Memory ran out.
+    /// Out of memory.
     Memory,
 }
 

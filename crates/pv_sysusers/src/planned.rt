@@ -1,4 +1,4 @@
-//! The plan of a run: the texts of the account files.
+//! The plan of a run: the new texts of the account files (sysusers.d(5)).
 ghost use Rattle.std.specs.Prelude.{◌≡◌, ◌++◌, [], Ok, option_map, slice_get, IfOk, IfErr, OnOk, OnErr};
 ghost use Rattle.std.specs.List.{flat_map};
 ghost use Rattle.pv_text.specs.GivenMessages.{MessagesPart};
@@ -23,20 +23,20 @@ use pv_requests::RequestList;
 use pv_text::{Messages, say_all};
 use std::alloc::{AllocError, Global};
 
-/// The new texts of the account files.
+/// The new texts of the account files. A text that does not change is the old one.
 #[derive(Drop)]
 pub struct Texts {
-    /// That of /etc/passwd.
+    /// The text of /etc/passwd.
     pub passwd: Bytes,
-    /// That of /etc/group.
+    /// The text of /etc/group.
     pub group: Bytes,
-    /// That of /etc/shadow.
+    /// The text of /etc/shadow.
     pub shadow: Bytes,
-    /// That of /etc/gshadow, where it is there.
+    /// The text of /etc/gshadow, or `None` if this file is absent.
     pub gshadow: Option<Bytes>,
 }
 
-/// The account files; /etc/gshadow may be absent.
+/// The old texts of the account files. /etc/gshadow may be absent.
 #[derive(Clone, Copy)]
 struct AccountFiles<'a> {
     passwd: &'a [u8],
@@ -48,13 +48,13 @@ struct AccountFiles<'a> {
 /// The new groups and users with their numbers.
 #[derive(Drop)]
 pub struct Numbers {
-    /// The groups.
+    /// The new groups, each with its name and GID, in the order in which they were decided.
     pub groups: Vec<(Bytes, u32)>,
-    /// The users.
+    /// The new users, in the order in which they were decided.
     pub users: Vec<NewUser>,
 }
 
-/// The new groups and users with their numbers: all groups first, and then the users.
+/// Decides the numbers of new groups and users: of all groups first, and then of the users.
 fn decided_numbers(
     alloc: Global,
     wanted: &Wanted,
@@ -74,7 +74,7 @@ fn decided_numbers(
     })
 }
 
-/// /etc/gshadow with needed groups and members, where it is there.
+/// Returns the text of /etc/gshadow with needed groups and new members, or `None` if the file is absent.
 fn gshadow_of(
     alloc: Global,
     needs: &[Need],
@@ -90,7 +90,7 @@ fn gshadow_of(
     }
 }
 
-/// The texts that new groups, members and new users give.
+/// Returns the texts that new groups, new members and new users give.
 fn texts_by(
     alloc: Global,
     files: &AccountFiles<'_>,
@@ -110,7 +110,7 @@ fn texts_by(
     })
 }
 
-/// The plan of lines that count.
+/// Plans the texts for effective lines, which have at most one u line for each user.
 fn plan_of(
     alloc: Global,
     files: &AccountFiles<'_>,
@@ -134,7 +134,7 @@ fn plan_of(
     Ok(texts)
 }
 
-/// The plan of requests, with what is said in a list of its own.
+/// Plans the texts for requests, and adds the messages to a list of its own.
 fn planned_texts(
     alloc: Global,
     requests: &RequestList,
@@ -154,7 +154,11 @@ fn planned_texts(
     plan_of(alloc, files, &lines, day, new_messages)
 }
 
-/// What is said of lines that come again (sysusers.d(5)).
+/// Returns a message for each u line whose user an earlier u line names and which asks for something else
+/// (sysusers.d(5)).
+///
+/// Such a line has no effect, since the first u line of a user counts. A line that asks for the same gives no message.
+/// The messages are in the order of the lines, each `FILE:N: duplicate line for NAME`. The only error is `AllocError`.
 pub fn duplicates(alloc: Global, requests: &RequestList) -> Result<Messages, AllocError>
     ensures { IfOk result (λ new_messages. new_messages ≡ duplicate_messages [] (lines_from [] 0 requests.now)) }
 {
@@ -163,10 +167,27 @@ pub fn duplicates(alloc: Global, requests: &RequestList) -> Result<Messages, All
     Ok(new_messages)
 }
 
-/// Plans the new texts of the account files (sysusers.d(5)), by the requests, the owners of the objects at their paths
-/// and the day. The answer is the new texts, or the name of the first user or group for which no number is left.
-/// /etc/gshadow may be absent. Messages on repeated lines come first, then messages on numbers in use. If memory runs
-/// out, nothing or a prefix of them is said.
+/// Plans the new texts of the account files (sysusers.d(5)): with new groups, new users and new members of groups. It
+/// reads and writes no files.
+///
+/// - `requests` has the lines in order.
+/// - `passwd`, `group`, `shadow` and `gshadow` are the old texts. A file that is absent is given as an empty text, and
+///   /etc/gshadow as `None`.
+/// - `taken` has an item for each request: the owners of the object at its path, or `None`. Missing items count as
+///   `None`, so it may be empty.
+/// - `day` counts the days since 1970-01-01 UTC. It is written into new entries of /etc/shadow.
+/// - `messages` gets the messages of the plan, after those that it has. Messages on repeated lines come first, then
+///   those on numbers in use.
+///
+/// The answer is one of these:
+///
+/// - `Ok(texts)`: the new texts.
+/// - `Err(NoFreeId(name))`: no number is left for this group or user, the first one for which this is so. Groups are
+///   decided before users.
+/// - `Err(Memory)`: out of memory. Nothing or a prefix of the messages was added.
+///
+/// For example, the single line `g app 500` adds `app:x:500:` to the text of /etc/group, if there is no group `app` and
+/// nobody has the number 500.
 pub fn plan(
     alloc: Global,
     requests: &RequestList,
@@ -200,7 +221,7 @@ pub fn plan(
     plan_files(alloc, requests, &files, taken, day, messages)
 }
 
-/// The plan of a run by the account files.
+/// Plans a run as [`plan`] does, for the account files as one value.
 fn plan_files(
     alloc: Global,
     requests: &RequestList,

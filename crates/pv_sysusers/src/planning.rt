@@ -23,8 +23,10 @@ use pv_steps::Tree;
 use pv_text::Messages;
 use std::alloc::Global;
 
-/// Plans a run: the edits that it makes of the account files, which can all be used, or the name for which no number is
-/// left. If memory runs out, nothing or a prefix of what is to be said is said.
+/// Plans a run: returns the edits of the account files, or the name for which no number is left.
+///
+/// `now` is in microseconds since 1970-01-01 UTC. All messages of the plan are added to `messages`. If memory runs out,
+/// nothing or a prefix of them is added.
 pub(crate) fn planned_edits<T: Tree>(
     alloc: Global,
     tree: &T,
@@ -58,7 +60,7 @@ pub(crate) fn planned_edits<T: Tree>(
     Ok(edits)
 }
 
-/// The new texts of the account files of a tree.
+/// Returns the new texts of the account files of a tree. `day` counts the days since 1970-01-01 UTC.
 fn planned_texts<T: Tree>(
     alloc: Global,
     tree: &T,

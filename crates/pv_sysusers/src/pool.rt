@@ -1,4 +1,4 @@
-//! The numbers that may be given to new users and groups.
+//! The numbers that may be given to new users and groups (sysusers.d(5), "r" lines).
 ghost use Rattle.std.specs.Prelude.{◌≡◌, ◌+◌, ◌<◌, ◌==◌, ◌++◌, ℕ, nat_eq, None, IfOk, IfNone, IfSome, OnOk};
 ghost use Rattle.std.specs.HashSet as set;
 ghost use Rattle.std.specs.List.{flat_map, list_any};
@@ -15,16 +15,16 @@ use pv_requests::Request;
 use std::alloc::{AllocError, Global};
 use std::collections::HashSet;
 
-/// The numbers that may be given: those in ranges, without 0, 65535 and those that lines fix.
+/// The numbers that may be given: those in ranges, without 0, 65535 and the numbers that lines fix.
 #[derive(Drop)]
 pub struct Pool {
-    /// The ranges, each by its first and its last number.
+    /// The ranges, each by its first and its last number. A range whose first number is greater than its last is empty.
     pub ranges: Vec<(u32, u32)>,
     /// The numbers that lines fix.
     pub fixed: HashSet<u32>,
 }
 
-/// Adds the range of an r line.
+/// Adds the range of a line, if it is an r line.
 fn add_range(ranges: &mut Vec<(u32, u32)>, line: Line<'_>) -> Result<(), AllocError>
     ensures { OnOk result (ranges.new.items ≡ ranges.old.items ++ range_of (shown_line line.entry)) }
 {
@@ -34,7 +34,7 @@ fn add_range(ranges: &mut Vec<(u32, u32)>, line: Line<'_>) -> Result<(), AllocEr
     Ok(())
 }
 
-/// The ranges of lines.
+/// Returns the ranges of all r lines.
 fn ranges_of(alloc: Global, lines: &[Line<'_>]) -> Result<Vec<(u32, u32)>, AllocError>
     ensures { IfOk result (λ ranges. ranges.items ≡ flat_map range_of (shown lines.now)) }
 {
@@ -45,7 +45,7 @@ fn ranges_of(alloc: Global, lines: &[Line<'_>]) -> Result<Vec<(u32, u32)>, Alloc
     Ok(ranges)
 }
 
-/// The ranges, or else 1 to 999.
+/// Returns the ranges or, if there are none, the range 1 to 999.
 fn ranges_or_own(mut ranges: Vec<(u32, u32)>) -> Result<Vec<(u32, u32)>, AllocError>
     ensures { IfOk result (λ all. all.items ≡ ranges_or_own ranges.items) }
 {
@@ -75,7 +75,7 @@ fn add_need_numbers(numbers: &mut Vec<u32>, needs: &[Need]) -> Result<(), AllocE
     Ok(())
 }
 
-/// The number of a primary group that has no name.
+/// Returns the GID of a primary group that is given by its number, or `None`.
 fn main_number(main: &Main) -> Option<u32>
     ensures { option_to_list result ≡ main_number main.now }
 {
@@ -85,7 +85,7 @@ fn main_number(main: &Main) -> Option<u32>
     }
 }
 
-/// Adds the numbers that a u line fixes for a user and for a group without a name.
+/// Adds the numbers that a u line fixes for a user, and for a primary group that is given by its number.
 fn add_account_numbers(numbers: &mut Vec<u32>, account: &Account) -> Result<(), AllocError>
     ensures { OnOk result (numbers.new.items ≡ numbers.old.items ++ account_numbers account.now) }
 {
@@ -103,7 +103,7 @@ fn add_user_numbers(numbers: &mut Vec<u32>, accounts: &[Account]) -> Result<(), 
     Ok(())
 }
 
-/// The set of numbers.
+/// Returns the set of these numbers.
 fn set_of(alloc: Global, numbers: &[u32]) -> Result<HashSet<u32>, AllocError>
     ensures { IfOk result (λ all. (n : ℕ) → set.contains nat_eq all n ≡ list_any (λ m. m == n) numbers.now) }
 {
@@ -114,7 +114,7 @@ fn set_of(alloc: Global, numbers: &[u32]) -> Result<HashSet<u32>, AllocError>
     Ok(all)
 }
 
-/// The last number of a range that is not empty.
+/// Returns the last number of a range, or `None` if the range is empty.
 fn last_of(range: (u32, u32)) -> Option<u32>
     ensures { result ≡ last_of range }
 {
@@ -125,7 +125,7 @@ fn last_of(range: (u32, u32)) -> Option<u32>
     }
 }
 
-/// The highest number of a range below a bound.
+/// Returns the highest number of a range below a bound, or `None` if there is none.
 fn top_of(range: (u32, u32), bound: u32) -> Option<u32>
     ensures { result ≡ highest (λ n. is_between n range) bound }
 {
@@ -139,7 +139,7 @@ fn top_of(range: (u32, u32), bound: u32) -> Option<u32>
     }
 }
 
-/// The greater of two numbers, if there are any.
+/// Returns the greater of two numbers, or the only one, or `None` if there is none.
 fn greater(a: Option<u32>, b: Option<u32>) -> Option<u32>
     ensures { result ≡ greater a b }
 {
@@ -153,7 +153,8 @@ fn greater(a: Option<u32>, b: Option<u32>) -> Option<u32>
 }
 
 impl Pool {
-    /// The numbers that may be given, by the ranges of lines, or else 1 to 999, and by the numbers that lines fix.
+    /// Returns the pool of lines: the ranges of r lines or, if there are none, 1 to 999, without the numbers that lines
+    /// fix.
     pub(crate) fn of(
         alloc: Global,
         lines: &[Line<'_>],
@@ -172,7 +173,7 @@ impl Pool {
         })
     }
 
-    /// The highest number of all ranges below a bound.
+    /// Returns the highest number of all ranges below a bound, or `None` if there is none.
     fn top(&self, bound: u32) -> Option<u32>
         ensures { result ≡ highest (λ n. list_any (is_between n) self.now.ranges.items) bound }
     {
@@ -183,7 +184,7 @@ impl Pool {
         top
     }
 
-    /// Whether a number of the ranges may be given, and nobody has it.
+    /// Returns whether a number of the ranges may be given, and no user and no group has it.
     fn is_free(&self, n: u32, users: &InUse<'_>, groups: &InUse<'_>) -> bool
         ensures { result ≡ is_free_in self.now users.now groups.now n }
     {
@@ -193,7 +194,7 @@ impl Pool {
         n != 0 && n != 65535 && !fixed && !used && !grouped
     }
 
-    /// The highest number of the pool below a bound that no user and no group has.
+    /// Returns the highest number of the pool below a bound that no user and no group has, or `None` if there is none.
     fn free_below(&self, bound: u32, users: &InUse<'_>, groups: &InUse<'_>) -> Option<u32>
         ensures { result ≡ free_below (pooled_by self.now) users.now groups.now bound }
     {
@@ -208,17 +209,17 @@ impl Pool {
     }
 }
 
-/// A pool, and the number that it gives next.
+/// A pool, with the number that it gives next.
 #[derive(Clone, Copy)]
 pub struct Stock<'a> {
     /// The pool.
     pub pool: &'a Pool,
-    /// Its highest number that no user and no group has.
+    /// The highest number of the pool that no user and no group has, or `None` if there is none.
     pub next: Option<u32>,
 }
 
 impl<'a> Stock<'a> {
-    /// A pool, and the number that it gives first.
+    /// Returns the stock of a pool, with the number that it gives first.
     pub(crate) fn of(pool: &'a Pool, users: &InUse<'_>, groups: &InUse<'_>) -> Self
         ensures next { GivesNext result users.now groups.now }
         ensures pool { result.pool ≡ pool.entry }
@@ -229,7 +230,8 @@ impl<'a> Stock<'a> {
         }
     }
 
-    /// The pool after a number was given, perhaps the next one. Numbers past the next one are not looked at again.
+    /// Returns the stock after a number was given, which may be the next one. Numbers above the next one are not looked
+    /// at again.
     pub(crate) fn further(&self, users: &InUse<'_>, groups: &InUse<'_>) -> Self
         requires { IfSome self.now.next (λ n. n < 4294967295) }
         ensures some { IfSome self.now.next (λ n. result.next ≡ free_below (pooled_by self.now.pool.now) users.now groups.now (n + 1)) }
@@ -246,13 +248,13 @@ impl<'a> Stock<'a> {
     }
 }
 
-/// What a number for a new user or group is chosen by.
+/// What the number of a new user or group is chosen from.
 #[derive(Clone, Copy)]
 pub struct Supply<'a> {
-    /// The numbers that may be given.
+    /// The pool, with the number that it gives next.
     pub stock: Stock<'a>,
-    /// The users that are there.
+    /// The names and UIDs of all users so far.
     pub users: &'a InUse<'a>,
-    /// The groups that are there.
+    /// The names and GIDs of all groups so far.
     pub groups: &'a InUse<'a>,
 }

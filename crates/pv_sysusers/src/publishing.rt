@@ -1,18 +1,19 @@
-//! Staged files are renamed into place, file by file.
+//! Renaming of staged files into place, file by file.
 ghost use Rattle.std.specs.Prelude.{◌≡◌, ◌⊎◌, fold, length, OnOk};
 ghost use Rattle.std.specs.List.{AllByRecursion};
 ghost use Rattle.pv_steps.specs.declared.node.Kind.TheVariants.{Directory};
 ghost use Rattle.pv_steps.specs.Trees.{places, IsKind};
 ghost use Rattle.pv_steps.specs.Acting.{Acted};
 ghost use Rattle.pv_walk.specs.Removal.{MayHaveMoved};
-ghost use Rattle.pv_sysusers.specs.Edits.{AreEdits, IsEdit, IsOfSome, IsStaged, Published, PublishesEdit, etc, with_published};
+ghost use Rattle.pv_sysusers.specs.Edits.{AreEdits, IsEdit, IsOfSome, IsStaged, Published, PublishesEdit, with_published};
+ghost use Rattle.pv_layers.specs.Places.{etc};
 
 use crate::edit::Edit;
 use pv_path::staging;
 use pv_steps::{Step, Tree, TreeFault, try_step};
 use std::alloc::Global;
 
-/// Brings what is staged to its path, file by file in their order.
+/// Renames staged files into place, file by file in their order.
 pub(crate) fn publish_all<T: Tree>(
     alloc: Global,
     tree: &mut T,
@@ -36,7 +37,7 @@ pub(crate) fn publish_all<T: Tree>(
     }
 }
 
-/// Brings what is staged for one file to its path, in one step.
+/// Renames the staged file of one edit into place, in one step.
 fn publish<T: Tree>(alloc: Global, tree: &mut T, edit: &Edit, now: u64) -> Result<(), TreeFault>
     requires edit { IsEdit edit.now }
     requires directory { IsKind Directory (T.state tree.old) etc }

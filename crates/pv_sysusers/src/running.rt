@@ -1,4 +1,4 @@
-//! A run of systemd-sysusers over a tree.
+//! A complete run of systemd-sysusers over a tree: plan, sweep, stage and rename into place.
 ghost use Rattle.std.specs.Prelude.{◌≡◌, ◌≢◌, ◌++◌, ◌+◌, [], None, IfOk, IfErr, IsErrOf, OnOk};
 ghost use Rattle.std.specs.List.{AllByRecursion};
 ghost use Rattle.pv_steps.specs.Trees.{places, IsTree};
@@ -28,11 +28,35 @@ use pv_steps::{Carried, Tree, TreeFault};
 use pv_text::{Messages, say_all};
 use std::alloc::{AllocError, Global};
 
-/// Makes the users and groups that lines ask for (systemd-sysusers(8), sysusers.d(5)). It reads the account files and
-/// plans their new texts. It removes what earlier runs have staged for them, and stages each text that changes with the
-/// metadata of its file. It renames them into place in the order group, gshadow, shadow, passwd. If an account file
-/// cannot be used, nothing is done, and the answer is `NotCarriedOut`. If no number is left for a name, nothing is done
-/// either.
+/// Makes the users and groups that lines ask for, in the account files of a tree (systemd-sysusers(8), sysusers.d(5)).
+///
+/// It reads /etc/group, /etc/gshadow, /etc/shadow and /etc/passwd, and plans their new texts as [`plan`] does. An
+/// absent file counts as empty, except that an absent /etc/gshadow stays absent. Then it removes what earlier runs have
+/// staged. It stages each text that changes, with the metadata of the old file. It renames the staged files into place
+/// in the order group, gshadow, shadow, passwd. An absent /etc is made first, if a text changes.
+///
+/// - `requests` has the lines in order. `read_requests` of pv_read_config gives them. Their paths must have fewer than
+///   2^32 names. Those of lines that were read have.
+/// - `now` is the time of the run, in microseconds since 1970-01-01 UTC. Its day is written into new entries of
+///   /etc/shadow.
+/// - `messages` gets the messages of the run, after those that it has.
+///
+/// The answer is one of these:
+///
+/// - `Ok(Whole)`: the plan was carried out, and all messages were added.
+/// - `Ok(NotCarriedOut)`: an account file cannot be used. It is not a regular file, or its path is not safe to walk.
+///   The messages say which and why, and no step is done.
+/// - `Err(NoFreeId(name))`: no number is left for this user or group. The messages of the plan are added, and no step
+///   is done.
+/// - `Err(Failed)`: the tree refused a step, and none was done after it. All messages had been added.
+/// - `Err(Memory)`: out of memory. A prefix of the messages was added, and a prefix of the steps may have been done.
+///
+/// If the lines are allowed, as those that `read_requests` gives are, a complete run of them recovers after each step
+/// and after each answer. It gives /etc/group, /etc/gshadow and /etc/passwd the texts of one complete run. If it is on
+/// the same day, it leaves the same tree, except for timestamps and staging names.
+///
+/// For example, over a tree without accounts the single line `u app 500` adds `app:x:500:` to /etc/group. It adds
+/// `app:x:500:500::/:/usr/sbin/nologin` to /etc/passwd.
 pub fn accounts_run<T: Tree>(
     alloc: Global,
     tree: &mut T,
@@ -42,26 +66,27 @@ pub fn accounts_run<T: Tree>(
 ) -> Result<Carried, AccountsFault>
     requires requests { AllByRecursion HasFewNames requests.now }
 
-    // What a complete run leaves, timestamps included, what it says and how it ends.
+    // The tree that a complete run leaves, timestamps included, its messages and its answer.
     ensures ok { OnOk result (T.state tree.new ≡ accounted requests.now now (T.state tree.old)) }
     ensures new_messages { OnOk result (messages.new ≡ messages.old ++ accounts_messages requests.now now (places (T.state tree.old))) }
     ensures carried { IfOk result (λ c. c ≡ carried_of (is_unusable (places (T.state tree.old)))) }
     ensures enough { OnOk result (lacking_at requests.now now (places (T.state tree.old)) ≡ None) }
     ensures staged { OnOk result (LeavesNoStagingName requests.now now (T.state tree.old) (T.state tree.new)) }
 
-    // Where no number is left for a name, what is said, and that nothing is done.
+    // If no number is left for a name: the messages, and that no step is done.
     ensures lacking { IfErr result (Lacks (lacking_at requests.now now (places (T.state tree.old)))) }
     ensures lacking_messages { IfLacking result (messages.new ≡ messages.old ++ accounts_messages requests.now now (places (T.state tree.old))) }
     ensures lacking_idle { IfLacking result (T.steps tree.new ≡ T.steps tree.old) }
 
-    // All is said before the first step, and no step is done where a number lacks: where a step failed, all has been said.
+    // All messages are added before the first step, and no step is done if a number is missing. So if a step failed,
+    // all messages have been added.
     ensures failed_enough { IsErrOf result Failed → lacking_at requests.now now (places (T.state tree.old)) ≡ None }
     ensures failed_messages { IsErrOf result Failed → messages.new ≡ messages.old ++ accounts_messages requests.now now (places (T.state tree.old)) }
 
-    // Nothing is done where a file cannot be used.
+    // No step is done if an account file cannot be used.
     ensures idle { unusable_texts (places (T.state tree.old)) ≢ [] → T.steps tree.new ≡ T.steps tree.old }
 
-    // What any run has said and done, whatever it answers.
+    // The messages and steps of every run, whatever the answer.
     ensures part { MessagesPart (accounts_messages requests.now now (places (T.state tree.old))) messages.old messages.new }
     ensures acted { let edits = edits_at requests.now now (places (T.state tree.old)) in
         Acted T.Tree (AccountWay edits (T.state tree.old)) (IsAccountStep edits (T.state tree.old))
@@ -83,7 +108,7 @@ pub fn accounts_run<T: Tree>(
     run_usable(alloc, tree, requests, now, messages)
 }
 
-/// The run where each account file can be used.
+/// Does the run if each account file can be used.
 fn run_usable<T: Tree>(
     alloc: Global,
     tree: &mut T,
@@ -126,7 +151,7 @@ fn run_usable<T: Tree>(
     }
 }
 
-/// The answer of what was done in steps, as that of a run.
+/// Returns the answer of the run for the answer of the steps.
 fn run_answer(answer: Result<(), TreeFault>) -> Result<Carried, AccountsFault>
     ensures { result ≡ run_answer answer }
 {
@@ -137,8 +162,8 @@ fn run_answer(answer: Result<(), TreeFault>) -> Result<Carried, AccountsFault>
     }
 }
 
-/// Says which lines are repeated, and then which account files cannot be used. If memory runs out, nothing or a prefix
-/// of it is said.
+/// Adds the messages about repeated lines, and then those about account files that cannot be used. If memory runs out,
+/// nothing or a prefix of them is added.
 fn say_unusable(
     alloc: Global,
     requests: &RequestList,

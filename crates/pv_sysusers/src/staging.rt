@@ -1,4 +1,4 @@
-//! New texts are staged, file by file.
+//! Staging of new texts, file by file.
 ghost use Rattle.std.specs.Prelude.{◌≡◌, ◌*◌, fold, length, IfOk, OnOk};
 ghost use Rattle.std.specs.List.{AllByRecursion};
 ghost use Rattle.pv_path.specs.Paths.{staging_of};
@@ -6,7 +6,8 @@ ghost use Rattle.pv_steps.specs.declared.node.Kind.TheVariants.{Directory};
 ghost use Rattle.pv_steps.specs.Trees.{places, IsKind};
 ghost use Rattle.pv_steps.specs.Same.{Same};
 ghost use Rattle.pv_steps.specs.Acting.{Acted};
-ghost use Rattle.pv_sysusers.specs.Edits.{AreEdits, IsEdit, IsFree, IsOfSome, StagesEdit, etc, most_staged, new_file, with_staged};
+ghost use Rattle.pv_sysusers.specs.Edits.{AreEdits, IsEdit, IsFree, IsOfSome, StagesEdit, most_staged, new_file, with_staged};
+ghost use Rattle.pv_layers.specs.Places.{etc};
 ghost use Rattle.pv_sysusers.specs.Turns.{StagingOne, StagingSome};
 
 use crate::edit::Edit;
@@ -41,7 +42,7 @@ pub(crate) fn stage_all<T: Tree>(
     }
 }
 
-/// Stages the new text of one file, with all that the file is to have.
+/// Stages the new text of one file, with its metadata.
 fn stage<T: Tree>(alloc: Global, tree: &mut T, edit: &Edit, now: u64) -> Result<(), TreeFault>
     requires edit { IsEdit edit.now }
     requires directory { IsKind Directory (T.state tree.old) etc }
@@ -58,7 +59,7 @@ fn stage<T: Tree>(alloc: Global, tree: &mut T, edit: &Edit, now: u64) -> Result<
     set_metadata(tree, &stage, &edit.metadata, now)
 }
 
-/// The new file, in the mode and with the owners that it is to have.
+/// Returns the new file, with its mode and its owners.
 fn new_file(edit: &Edit) -> Result<NewFile, AllocError>
     requires { IsEdit edit.now }
     ensures { IfOk result (λ new. new ≡ new_file edit.now) }

@@ -1,4 +1,4 @@
-//! What earlier runs have staged for the account files is taken away.
+//! The removal of what earlier runs have staged for the account files.
 ghost use Rattle.std.specs.Prelude.{◌≡◌, ◌∷◌, [], map, IfOk, OnOk};
 ghost use Rattle.std.specs.List.{AllByRecursion};
 ghost use Rattle.pv_path.specs.Paths.{staging_of};
@@ -7,10 +7,11 @@ ghost use Rattle.pv_steps.specs.Acting.{Acted};
 ghost use Rattle.pv_steps.specs.Content.{Removes};
 ghost use Rattle.pv_walk.specs.Edits.{Pruned, all_taken, count_at, taken};
 ghost use Rattle.pv_walk.specs.Staging.{count_at_all, is_under_any};
-ghost use Rattle.pv_sysusers.specs.Edits.{etc};
+ghost use Rattle.pv_layers.specs.Places.{etc};
 ghost use Rattle.pv_sysusers.specs.FileWriting.{IsSweptPath, account_paths, swept_names};
 
-use crate::paths::{account_paths, directory};
+use crate::paths::account_paths;
+use pv_layers::etc_path;
 use pv_path::TreePath;
 use pv_steps::{Tree, TreeFault};
 use pv_walk::sweep;
@@ -24,7 +25,7 @@ pub(crate) fn sweep_all<T: Tree>(alloc: Global, tree: &mut T, now: u64) -> Resul
         (count_at_all (T.state tree.old) swept_names) now tree.old tree.new result }
 {
     let paths = account_paths(alloc)?;
-    let etc = directory(alloc)?;
+    let etc = etc_path(alloc)?;
     sweep(alloc, tree, &etc, now)?;
     sweep_files(alloc, tree, &paths, now)
 }

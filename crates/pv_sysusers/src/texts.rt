@@ -1,4 +1,4 @@
-//! The texts of the account files with new entries and new members.
+//! The texts of the account files with new entries and new members (passwd(5), group(5), shadow(5), gshadow(5)).
 ghost use Rattle.std.specs.Prelude.{◌≡◌, [], ◌∷◌, ◌++◌, true, map, unwrap_or, if◌then◌else◌, IfOk, OnOk};
 ghost use Rattle.std.specs.List.{flat_map, list_any};
 ghost use Rattle.std.specs.Str.{bytes_eq};
@@ -19,7 +19,7 @@ use pv_gshadow::new_group;
 use pv_path::Bytes;
 use std::alloc::{AllocError, Global};
 
-/// The entry of a new group: `NAME:x:GID:`.
+/// Returns the entry of a new group in /etc/group: `NAME:x:GID:`.
 fn group_line(alloc: Global, group: &(Bytes, u32)) -> Result<Vec<u8>, AllocError>
     ensures { IfOk result (λ line. line.items ≡ group_line group.now) }
 {
@@ -31,7 +31,7 @@ fn group_line(alloc: Global, group: &(Bytes, u32)) -> Result<Vec<u8>, AllocError
     Ok(line)
 }
 
-/// The shell of a user, where none is given.
+/// Returns the shell of a user for whom none is given: `/bin/sh` for UID 0, and otherwise `/usr/sbin/nologin`.
 fn own_shell(uid: u32) -> &'static [u8]
     ensures { result.now ≡ own_shell uid }
 {
@@ -42,7 +42,7 @@ fn own_shell(uid: u32) -> &'static [u8]
     }
 }
 
-/// A text, or another where it is omitted.
+/// Returns a text, or another one if it is omitted.
 fn or_own<'a>(text: &'a Option<Bytes>, own: &'a [u8]) -> &'a [u8]
     ensures { result.now ≡ unwrap_or text.now own.now }
 {
@@ -52,7 +52,7 @@ fn or_own<'a>(text: &'a Option<Bytes>, own: &'a [u8]) -> &'a [u8]
     }
 }
 
-/// The first fields of the entry of a new user: `NAME:x:UID:GID:`.
+/// Returns the first fields of the entry of a new user: `NAME:x:UID:GID:`.
 fn passwd_start(alloc: Global, user: &NewUser) -> Result<Vec<u8>, AllocError>
     ensures { IfOk result (λ line. line.items ≡ passwd_start user.now) }
 {
@@ -67,7 +67,7 @@ fn passwd_start(alloc: Global, user: &NewUser) -> Result<Vec<u8>, AllocError>
     Ok(line)
 }
 
-/// The entry of a new user: `NAME:x:UID:GID:GECOS:HOME:SHELL`.
+/// Returns the entry of a new user in /etc/passwd: `NAME:x:UID:GID:GECOS:HOME:SHELL`.
 fn passwd_line(alloc: Global, user: &NewUser) -> Result<Vec<u8>, AllocError>
     ensures { IfOk result (λ line. line.items ≡ passwd_line user.now) }
 {
@@ -80,14 +80,14 @@ fn passwd_line(alloc: Global, user: &NewUser) -> Result<Vec<u8>, AllocError>
     Ok(line)
 }
 
-/// The last fields of a shadow entry: a locked account has ended on the first day.
+/// Returns the last fields of an entry in /etc/shadow. A locked account has expired on day 1 since 1970-01-01.
 fn shadow_end(locked: bool) -> &'static [u8]
     ensures { result.now ≡ shadow_end locked }
 {
     if locked { b":::::1:" } else { b"::::::" }
 }
 
-/// The shadow entry of a new user, who has no password: `NAME:!*:DAY::::::`.
+/// Returns the entry of a new user in /etc/shadow, without a password: `NAME:!*:DAY::::::`.
 fn shadow_line(alloc: Global, day: u64, user: &NewUser) -> Result<Vec<u8>, AllocError>
     ensures { IfOk result (λ line. line.items ≡ shadow_line day user.now) }
 {
@@ -99,7 +99,7 @@ fn shadow_line(alloc: Global, day: u64, user: &NewUser) -> Result<Vec<u8>, Alloc
     Ok(line)
 }
 
-/// Lines as slices.
+/// Returns lines as slices.
 fn slices(alloc: Global, lines: &[Vec<u8>]) -> Result<Vec<&[u8]>, AllocError>
     ensures { IfOk result (λ slices. map (λ s. s.now) slices.items ≡ map (λ line. line.items) lines.entry.now) }
 {
@@ -110,7 +110,7 @@ fn slices(alloc: Global, lines: &[Vec<u8>]) -> Result<Vec<&[u8]>, AllocError>
     Ok(slices)
 }
 
-/// A file with more lines.
+/// Returns a file with more entries.
 fn with_lines(alloc: Global, file: &[u8], lines: &[Vec<u8>]) -> Result<Vec<u8>, AllocError>
     ensures { IfOk result (λ text. text.items ≡ appended (map (λ line. line.items) lines.now) file.now) }
 {
@@ -118,7 +118,7 @@ fn with_lines(alloc: Global, file: &[u8], lines: &[Vec<u8>]) -> Result<Vec<u8>, 
     append_entries(alloc, file, entries.as_slice())
 }
 
-/// The entries of new groups.
+/// Returns the entries of new groups in /etc/group.
 fn group_lines(alloc: Global, made: &[(Bytes, u32)]) -> Result<Vec<Vec<u8>>, AllocError>
     ensures { IfOk result (λ lines. map (λ line. line.items) lines.items ≡ map group_line made.now) }
 {
@@ -129,7 +129,7 @@ fn group_lines(alloc: Global, made: &[(Bytes, u32)]) -> Result<Vec<Vec<u8>>, All
     Ok(lines)
 }
 
-/// The entries of new users.
+/// Returns the entries of new users in /etc/passwd.
 fn passwd_lines(alloc: Global, made: &[NewUser]) -> Result<Vec<Vec<u8>>, AllocError>
     ensures { IfOk result (λ lines. map (λ line. line.items) lines.items ≡ map passwd_line made.now) }
 {
@@ -140,7 +140,7 @@ fn passwd_lines(alloc: Global, made: &[NewUser]) -> Result<Vec<Vec<u8>>, AllocEr
     Ok(lines)
 }
 
-/// /etc/group with new groups and members.
+/// Returns the text of /etc/group with new groups and new members.
 pub(crate) fn group_text(
     alloc: Global,
     made: &[(Bytes, u32)],
@@ -155,7 +155,7 @@ pub(crate) fn group_text(
     Ok(Bytes::from_vec(with_memberships(alloc, Kind::Group, text, lines)?))
 }
 
-/// /etc/passwd with new users.
+/// Returns the text of /etc/passwd with new users.
 pub(crate) fn passwd_text(alloc: Global, made: &[NewUser], file: &[u8]) -> Result<Bytes, AllocError>
     ensures { IfOk result (λ text. text ≡ passwd_text made.now file.now) }
 {
@@ -163,7 +163,7 @@ pub(crate) fn passwd_text(alloc: Global, made: &[NewUser], file: &[u8]) -> Resul
     Ok(Bytes::from_vec(with_lines(alloc, file, &entries)?))
 }
 
-/// Adds the shadow entry of a new user, whose name is not known yet.
+/// Adds the entry of a new user in /etc/shadow, unless the file has an entry of this name.
 fn add_shadow_line(
     alloc: Global,
     day: u64,
@@ -182,7 +182,7 @@ fn add_shadow_line(
     Ok(())
 }
 
-/// /etc/shadow with those new users that have no entry yet.
+/// Returns the text of /etc/shadow with those new users that have no entry yet.
 pub(crate) fn shadow_text(
     alloc: Global,
     day: u64,
@@ -199,7 +199,7 @@ pub(crate) fn shadow_text(
     Ok(Bytes::from_vec(with_lines(alloc, file, &entries)?))
 }
 
-/// The names of needed groups that have no entry in /etc/gshadow yet, each once.
+/// Returns the names of needed groups that have no entry in /etc/gshadow yet, each once.
 fn without_entry<'a>(
     alloc: Global,
     file: &'a [u8],
@@ -219,7 +219,7 @@ fn without_entry<'a>(
     Ok(names)
 }
 
-/// The entries of groups in /etc/gshadow.
+/// Returns the entries of groups in /etc/gshadow.
 fn gshadow_lines(alloc: Global, names: &[&[u8]]) -> Result<Vec<Vec<u8>>, AllocError>
     ensures { IfOk result (λ lines. map (λ line. line.items) lines.items ≡ map new_group (map (λ n. n.now) names.now)) }
 {
@@ -230,7 +230,7 @@ fn gshadow_lines(alloc: Global, names: &[&[u8]]) -> Result<Vec<Vec<u8>>, AllocEr
     Ok(lines)
 }
 
-/// /etc/gshadow with needed groups and members.
+/// Returns the text of /etc/gshadow with needed groups and new members.
 pub(crate) fn gshadow_text(
     alloc: Global,
     needs: &[Need],

@@ -13,18 +13,18 @@ use pv_accounts::InUse;
 use pv_text::Messages;
 use std::alloc::{AllocError, Global};
 
-/// A new user with his numbers.
+/// A new user with its numbers.
 #[derive(Drop)]
 pub struct NewUser {
-    /// What lines ask for him.
+    /// What lines ask for the user.
     pub account: Account,
-    /// His number.
+    /// Its UID.
     pub uid: u32,
-    /// The number of his primary group.
+    /// The GID of its primary group.
     pub gid: u32,
 }
 
-/// Whether a user may get a number: no user has it, and no group of another name.
+/// Returns whether a user may get a number: no user has it, and no group of another name.
 fn is_free_for(users: &InUse<'_>, groups: &InUse<'_>, name: &[u8], n: u32) -> bool
     ensures { result ≡ is_free_for users.now groups.now name.now n }
 {
@@ -32,7 +32,8 @@ fn is_free_for(users: &InUse<'_>, groups: &InUse<'_>, name: &[u8], n: u32) -> bo
     !(users.is_held(n) || other)
 }
 
-/// The number of the group of the user's name, where he may get it, or else the next one of the pool.
+/// Returns the GID of the group that has the user's name, if it is not 0 and the user may get it. Otherwise, it returns
+/// the next number of the pool, if there is one.
 fn group_or_next(supply: &Supply<'_>, name: &[u8]) -> Option<u32>
     requires { IsStocked supply.now }
     ensures { result ≡ group_or_free (pooled_by supply.now.stock.pool.now) supply.now.users.now supply.now.groups.now name.now }
@@ -43,7 +44,8 @@ fn group_or_next(supply: &Supply<'_>, name: &[u8]) -> Option<u32>
     }
 }
 
-/// The number that a user gets, if there is one.
+/// Returns the number that a user gets, or `None` if none is left. It adds a message if the number that a line fixes is
+/// in use.
 fn user_number(
     alloc: Global,
     supply: &Supply<'_>,
@@ -67,7 +69,7 @@ fn user_number(
     Ok(group_or_next(supply, name))
 }
 
-/// The number of the primary group, which was decided before.
+/// Returns the GID of the primary group, which was decided before.
 fn gid_of(groups: &InUse<'_>, name: &[u8], main: &Main) -> u32
     ensures { result ≡ gid_of groups.now name.now main.now }
 {
@@ -78,7 +80,7 @@ fn gid_of(groups: &InUse<'_>, name: &[u8], main: &Main) -> u32
     }
 }
 
-/// Adds a new user to those that are made.
+/// Adds a new user to the new ones.
 fn add_made(
     made: &mut Vec<NewUser>,
     groups: &InUse<'_>,
@@ -93,17 +95,17 @@ fn add_made(
     Ok(())
 }
 
-/// The users with those that are new.
+/// All users, and which of them are new.
 #[derive(Drop)]
 struct Users<'a> {
-    /// All users with their numbers.
+    /// The names and UIDs of all users.
     all: InUse<'a>,
     /// The new ones.
     made: Vec<NewUser>,
 }
 
 impl<'a> Users<'a> {
-    /// The users with one more, who is new.
+    /// Adds one new user.
     fn with(self, groups: &InUse<'_>, account: &'a Account, uid: u32) -> Result<Self, AllocError>
         requires { id_of self.all account.now.name ≡ None }
         ensures all { IfOk result (λ users. users.all ≡ self.entry.all ++ (account.entry.now.name, uid) ∷ []) }
@@ -116,7 +118,7 @@ impl<'a> Users<'a> {
     }
 }
 
-/// The number that a needed user gets, or the fault that there is none.
+/// Returns the number that a needed user gets, or the error that none is left.
 fn needed_number(
     alloc: Global,
     supply: &Supply<'_>,
@@ -138,7 +140,7 @@ fn needed_number(
     }
 }
 
-/// The users that lines need, decided in order: one that is there stays as he is.
+/// Decides the users that lines need, in order, and returns the new ones. A user that is there stays as it is.
 pub(crate) fn decided_users<'a>(
     alloc: Global,
     wanted: &'a Wanted,

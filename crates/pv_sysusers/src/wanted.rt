@@ -1,4 +1,4 @@
-//! What lines ask for.
+//! What the lines of a configuration ask for.
 ghost use Rattle.std.specs.Prelude.{IfOk};
 ghost use Rattle.pv_sysusers.specs.Planning.{IsWanted};
 ghost use Rattle.pv_sysusers.specs.Shown.{IsIndexed, shown};
@@ -9,18 +9,18 @@ use crate::pool::Pool;
 use pv_accounts::InUse;
 use std::alloc::{AllocError, Global};
 
-/// What lines ask for.
+/// What the lines of a configuration ask for.
 #[derive(Drop)]
 pub struct Wanted {
-    /// The groups that they need.
+    /// The groups that they need, in order.
     pub needs: Vec<Need>,
-    /// The users that they need.
+    /// The users that they need, in order.
     pub accounts: Vec<Account>,
-    /// The numbers that may be given.
+    /// The numbers that may be given to them.
     pub pool: Pool,
 }
 
-/// What lines ask for.
+/// Returns what effective lines ask for. `users` has the names and UIDs of the users that are there.
 pub(crate) fn wanted_by(
     alloc: Global,
     users: &InUse<'_>,

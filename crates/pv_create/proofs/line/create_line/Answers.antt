@@ -2,7 +2,7 @@ use Rattle.std.proofs.Common.{Ok, refl}
 use Rattle.pv_steps.proofs.CarryingLaws.{carried_failed}
 use Rattle.pv_steps.proofs.ActingLaws.{acted_ended}
 use Rattle.pv_table.specs.Created.{by_line}
-use Rattle.pv_create.specs.Ways.{lines_course}
+use Rattle.pv_create.specs.OnTheWay.{lines_course}
 use Rattle.pv_create.proofs.line.create_line.Goals as goal
 
 pub returns-in_err-carried : goal.returns-in_err-carried

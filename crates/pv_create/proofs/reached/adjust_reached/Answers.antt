@@ -1,9 +1,8 @@
-use Rattle.std.proofs.Common.{◌≡◌, ◌+◌, ◌∷◌, [], ℕ, take, refl, arith}
+use Rattle.std.proofs.Common.{◌+◌, ◌∷◌, [], take, refl, arith}
 use Rattle.std.specs.Prelude.{map, sum}
 use Rattle.pv_steps.specs.Trees.{places}
 use Rattle.pv_steps.proofs.ActingLaws.{Moves, well, acted_none, acted_within}
 use Rattle.pv_table.specs.Created.{change_work, adjust_work}
-use Rattle.pv_table.specs.Effects.{become}
 use Rattle.pv_create.specs.Reached.{AdjustingInOrder, GivesReached}
 use Rattle.pv_create.proofs.ReachedLaws.{acted_more, all_alone, at_most, order_start, reached_alone}
 use Rattle.pv_create.proofs.reached.adjust_reached.Goals as goal

@@ -3,7 +3,7 @@ use Rattle.pv_steps.specs.Courses.{Partway, IsStepOfSome}
 use Rattle.pv_steps.specs.Acting.{Acted}
 use Rattle.pv_text.specs.GivenMessages.{MessagesPart}
 use Rattle.pv_table.specs.Active.{in_create_order}
-use Rattle.pv_create.specs.Ways.{lines_course}
+use Rattle.pv_create.specs.OnTheWay.{lines_course}
 use Rattle.pv_create.proofs.RunLaws.{counting_says, counting_takes, none_staged}
 use Rattle.pv_create.proofs.StepLaws.{given}
 use Rattle.pv_create.proofs.StoppedLaws.{recovers, recovered_again, stopped, between, framed}

@@ -5,7 +5,7 @@ use Rattle.pv_steps.proofs.CourseLaws.{cut_start, none_left, partway_start}
 use Rattle.pv_lines.specs.Lines.{IsLine}
 use Rattle.pv_steps.proofs.ActingLaws.{Moves}
 use Rattle.pv_table.specs.Active.{create_order, in_create_order}
-use Rattle.pv_create.specs.Ways.{lines_course}
+use Rattle.pv_create.specs.OnTheWay.{lines_course}
 use Rattle.pv_create.proofs.LineLaws.{line_begun, line_start}
 use Rattle.pv_create.proofs.RunLaws.{is_left, is_there, of_all, order-length}
 use Rattle.pv_create.proofs.run.run_in_order.Goals as goal

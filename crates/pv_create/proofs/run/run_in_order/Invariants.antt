@@ -1,7 +1,7 @@
 use Rattle.std.proofs.Common.{◌≡◌, drop}
 use Rattle.pv_steps.proofs.CarryingLaws.{Underway}
 use Rattle.pv_table.specs.Active.{create_order, in_create_order}
-use Rattle.pv_create.specs.Ways.{lines_course}
+use Rattle.pv_create.specs.OnTheWay.{lines_course}
 use Rattle.pv_create.proofs.run.run_in_order.Given as goal
 
 abbrev pub invariant-loop-place : goal.invariant-loop-place

@@ -9,7 +9,7 @@ use Rattle.pv_steps.proofs.ActingLaws.{Moves, acted_ended}
 use Rattle.pv_text.specs.GivenMessages.{MessagesPart}
 use Rattle.pv_table.specs.Saying.{turn_messages}
 use Rattle.pv_table.specs.Turns.{refused_at}
-use Rattle.pv_create.specs.OnWay.{plain_course}
+use Rattle.pv_create.specs.OnTheWay.{plain_course}
 use Rattle.pv_create.specs.Actions.{makes}
 use Rattle.pv_create.proofs.ToldLaws.{no_ready_work, none_asked, told_first}
 use Rattle.pv_create.specs.Refusing.{refused_as}

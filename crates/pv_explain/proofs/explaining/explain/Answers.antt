@@ -4,7 +4,7 @@ use Rattle.pv_walk.specs.Nodes.{object_states_of}
 use Rattle.pv_path.specs.Paths.{has_staging}
 use Rattle.pv_path.proofs.Tests.{if_ok}
 use Rattle.pv_steps.specs.Trees.{places}
-use Rattle.pv_table.specs.Created.{created, IsQuiet}
+use Rattle.pv_table.specs.Created.{created, RefusesNoLine}
 use Rattle.pv_table.specs.Repeatable.{IsRepeatable}
 use Rattle.pv_explain.specs.declared.explained.Explained.{Explained}
 use Rattle.pv_explain.specs.Acts.{object_state_in, standing}
@@ -26,7 +26,7 @@ returns-in-None-clause-leaves g c =
     let lines = c.args.table.now in
     let path = c.args.path.now in
     if_ok (λ (explanation : Explained). Tells lines (standing t) path explanation)
-    (λ (explanation : Explained). (now : ℕ) → IsRepeatable lines → IsQuiet lines now t → has_staging path ≡ false → option_map object_state_in explanation.node ≡ object_states_of (places (created lines now t)) path)
+    (λ (explanation : Explained). (now : ℕ) → IsRepeatable lines → RefusesNoLine lines now t → has_staging path ≡ false → option_map object_state_in explanation.node ≡ object_states_of (places (created lines now t)) path)
     c.explain_within.result
     (λ explanation tells now repeatable quiet plain. tells.node ∙ left_there t (g.met.T.Tree.is_tree c.args.tree.now) lines c.lines-lines.ensures.whole now repeatable quiet path plain)
     c.explain_within.ensures

@@ -3,7 +3,7 @@ use Rattle.std.specs.Prelude.{IfOk}
 use Rattle.pv_path.specs.Paths.{Path}
 use Rattle.pv_glob.specs.declared.meeting.Reach.{Reach}
 use Rattle.pv_overlap.specs.declared.pair.Pair.{Pair}
-use Rattle.pv_overlap.specs.Answers.{IsAnswered, IsTold}
+use Rattle.pv_overlap.specs.Answers.{IsAnswered, IsReported}
 use Rattle.pv_overlap.specs.Heads.{related}
 use Rattle.pv_overlap.specs.Subjects.{heads_of, MayAnswer}
 use Rattle.pv_overlap.proofs.AnswerLaws.{apart_none, heads_length}
@@ -28,5 +28,5 @@ returns-clause-listed c =
 pub returns-clause-all : goal.returns-clause-all
 returns-clause-all c =
     let is : c.in_ok-heads.heads ≡ heads_of c.args.reaches.now = c.in_ok-heads.ensures in
-    subst (λ (a : List Reach × ℕ). IfOk c.pairs_by.result (λ pairs. (i j : ℕ) → i < j → j < length c.args.reaches.now → IsTold (MayAnswer a.0 a.1) pairs i j)) c.in_ok-asker.ensures
-    (subst (λ (n : ℕ). IfOk c.pairs_by.result (λ pairs. (i j : ℕ) → i < j → j < n → IsTold (MayAnswer c.in_ok-asker.asker.0 c.in_ok-asker.asker.1) pairs i j)) (ap length is ∙ heads_length c.args.reaches.now) c.pairs_by.ensures.all)
+    subst (λ (a : List Reach × ℕ). IfOk c.pairs_by.result (λ pairs. (i j : ℕ) → i < j → j < length c.args.reaches.now → IsReported (MayAnswer a.0 a.1) pairs i j)) c.in_ok-asker.ensures
+    (subst (λ (n : ℕ). IfOk c.pairs_by.result (λ pairs. (i j : ℕ) → i < j → j < n → IsReported (MayAnswer c.in_ok-asker.asker.0 c.in_ok-asker.asker.1) pairs i j)) (ap length is ∙ heads_length c.args.reaches.now) c.pairs_by.ensures.all)

@@ -1,4 +1,4 @@
-use Rattle.std.proofs.Common.{◌≡◌, ◌∙◌, ◌++◌, ◌∷◌, [], ℕ, List, map, ap, append_assoc, subst}
+use Rattle.std.proofs.Common.{◌∙◌, ◌++◌, ◌∷◌, [], ℕ, List, map, ap, append_assoc, subst}
 use Rattle.pv_text.specs.GivenMessages.{MessagesPart}
 use Rattle.pv_text.proofs.MessagesLaws.{messages_first, messages_then, messages_whole}
 use Rattle.pv_overlap.specs.GivenMessages.{overlap_text, unrepeatable_text, verdict}

@@ -11,7 +11,7 @@ use Rattle.pv_walk.specs.Replacing.{Replacing, new_subtree}
 use Rattle.pv_walk.specs.Removal.{Publishing}
 use Rattle.pv_walk.specs.Staging.{IsPublishing, new_object}
 use Rattle.pv_walk.proofs.PuttingOverLaws.{count_absent, count_over, cut_absent, over_acted, over_moved, over_putting, over_staged}
-use Rattle.pv_sysusers.specs.Edits.{etc}
+use Rattle.pv_layers.specs.Places.{etc}
 use Rattle.pv_sysusers.specs.FileWriting.{most_directory}
 use Rattle.pv_sysusers.proofs.DirectoryLaws.{etc_some}
 use Rattle.pv_sysusers.proofs.TurnLaws.{comes_put, comes_staged}

@@ -6,7 +6,8 @@ use Rattle.pv_steps.proofs.ActingLaws.{Moves, acted_passed, acted_then, acted_wi
 use Rattle.pv_walk.specs.Putting.{Putting}
 use Rattle.pv_walk.specs.Preparing.{parent_file}
 use Rattle.pv_walk.proofs.Outcomes.{acted-tree}
-use Rattle.pv_sysusers.specs.Edits.{IsFree, IsStaged, etc, most_edited, most_staged, with_edit, with_published}
+use Rattle.pv_sysusers.specs.Edits.{IsFree, IsStaged, most_edited, most_staged, with_edit, with_published}
+use Rattle.pv_layers.specs.Places.{etc}
 use Rattle.pv_sysusers.specs.FileWriting.{AccountWay, IsAccountStep, PutsDirectory, directory_steps}
 use Rattle.pv_sysusers.proofs.StagingLaws.{published_all}
 use Rattle.pv_sysusers.proofs.FileWritingLaws.{IsNoDirectory, are_staged, directory_acted, directory_kept, files_put, frees_put, no_directories, published_acted, rooms, staged_acted}

@@ -5,7 +5,8 @@ use Rattle.pv_steps.proofs.ActingLaws.{Moves, acted_end, acted_passed, acted_the
 use Rattle.pv_walk.specs.Edits.{Pruned, all_taken}
 use Rattle.pv_walk.specs.Preparing.{with_parent}
 use Rattle.pv_walk.specs.Staging.{count_at_all, is_under_any}
-use Rattle.pv_sysusers.specs.Edits.{etc, most_edited, with_edit}
+use Rattle.pv_sysusers.specs.Edits.{most_edited, with_edit}
+use Rattle.pv_layers.specs.Places.{etc}
 use Rattle.pv_sysusers.specs.FileWriting.{AccountWay, IsAccountStep, directory_steps, most_put, swept_names}
 use Rattle.pv_sysusers.proofs.FileWritingLaws.{directory_swept, files_swept, frees_swept, most_some, pass_swept, put_after, step_after, swept_acted, swept_same, with_some}
 use Rattle.pv_sysusers.specs.Turns.{InTurn, TurnWay}

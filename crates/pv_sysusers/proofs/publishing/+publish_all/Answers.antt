@@ -6,7 +6,8 @@ use Rattle.pv_steps.specs.Trees.{IsKindIn, Places, places}
 use Rattle.pv_steps.specs.Acting.{Acted}
 use Rattle.pv_steps.proofs.ActingLaws.{Moves, acted_within, acted_passed}
 use Rattle.pv_sysusers.specs.declared.edit.Edit.{Edit}
-use Rattle.pv_sysusers.specs.Edits.{AreEdits, IsOfSome, IsStaged, Published, PublishesEdit, etc}
+use Rattle.pv_sysusers.specs.Edits.{AreEdits, IsOfSome, IsStaged, Published, PublishesEdit}
+use Rattle.pv_layers.specs.Places.{etc}
 use Rattle.pv_sysusers.proofs.StagingLaws.{outside_parent, published_kind, stage_some, stage_up, stageds_after}
 use Rattle.pv_sysusers.proofs.ActedLaws.{fewer, others, parted, published_more, published_one}
 use Rattle.pv_sysusers.proofs.publishing.+publish_all.Goals as goal

@@ -6,7 +6,8 @@ use Rattle.pv_steps.specs.Trees.{IsKindIn, Places, places}
 use Rattle.pv_steps.specs.Acting.{Acted}
 use Rattle.pv_steps.proofs.ActingLaws.{Moves, acted_within, acted_passed}
 use Rattle.pv_sysusers.specs.declared.edit.Edit.{Edit}
-use Rattle.pv_sysusers.specs.Edits.{AreEdits, IsFree, IsOfSome, StagesEdit, etc, most_staged}
+use Rattle.pv_sysusers.specs.Edits.{AreEdits, IsFree, IsOfSome, StagesEdit, most_staged}
+use Rattle.pv_layers.specs.Places.{etc}
 use Rattle.pv_sysusers.proofs.StagingLaws.{frees_after, staged_directory}
 use Rattle.pv_sysusers.proofs.ActedLaws.{fewer, others, parted, staged_more, staged_one}
 use Rattle.pv_sysusers.specs.Turns.{StagingSome}

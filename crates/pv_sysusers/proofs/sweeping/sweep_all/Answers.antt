@@ -9,7 +9,7 @@ use Rattle.pv_walk.specs.Edits.{Pruned, all_taken}
 use Rattle.pv_walk.specs.Staging.{can_stage, count_at_all, is_under_any, staging_names}
 use Rattle.pv_walk.proofs.SweepLaws.{pruned-none}
 use Rattle.pv_walk.proofs.PreparingSweep.{swept_along}
-use Rattle.pv_sysusers.specs.Edits.{etc}
+use Rattle.pv_layers.specs.Places.{etc}
 use Rattle.pv_sysusers.specs.FileWriting.{IsSweptPath, account_paths, swept_names}
 use Rattle.pv_sysusers.proofs.SweepingLaws.{all_swept, count_all, count_fewer, etc_among, swept_then, swept_within}
 use Rattle.pv_sysusers.proofs.sweeping.sweep_all.Goals as goal

@@ -1,4 +1,4 @@
-use Rattle.std.proofs.Common.{◌≡◌, ◌<◌, length, arith, ap, ◌∙◌}
+use Rattle.std.proofs.Common.{◌<◌, length, arith, ap, ◌∙◌}
 use Rattle.pv_accounts.specs.Edits.{text_of, with_member}
 use Rattle.pv_accounts.specs.Files.{lines_of}
 use Rattle.pv_accounts.specs.Kinds.{test_of}
