@@ -1,4 +1,5 @@
-//! `provision`: runs over the image on standard input, or on a folder, and writes messages, and the image, to standard output.
+//! The program `provision`. It runs over the image on standard input, and writes messages and the new image to standard
+//! output. With `--root=FOLDER` it runs on this folder, and writes the messages alone.
 #![tactic(auto)]
 
 ghost use Rattle.std.specs.Prelude.{◌≡◌, ◌≢◌, ◌⊎◌, ◌/◌, ◌^◌, ◌-◌, ℕ, min, [], true, Some, None, IfOk, OnErr, is_some, drop, map, string_bytes};
@@ -21,7 +22,9 @@ use std::io::{self, ErrorKind};
 use std::process::ExitCode;
 use std::time::SystemTime;
 
-/// The microseconds since 1970 of what a clock read, at most the last number of 64 bits; 0 where it read nothing, as before 1970.
+/// Converts what the clock read into microseconds since 1970-01-01 UTC, at most 2^64 - 1.
+///
+/// The answer is 0 for an earlier time, and if nothing was read.
 fn micros_of(read: io::Result<SystemTime>) -> u64
     ensures read { IfOk read (λ time. result ≡ min (system_time_nanos time / 1000) (2 ^ 64 - 1)) }
     ensures unread { OnErr read (result ≡ 0) }
@@ -35,7 +38,7 @@ fn micros_of(read: io::Result<SystemTime>) -> u64
     }
 }
 
-/// All arguments that the machine gave, in their order.
+/// Returns all arguments that the machine gave, in their order. The only error is `AllocError`.
 fn all_of(alloc: Global, given: Args) -> Result<Vec<String>, AllocError>
     ensures { IfOk result (λ arguments. arguments.items ≡ into_iter_items given) }
 {
@@ -46,7 +49,7 @@ fn all_of(alloc: Global, given: Args) -> Result<Vec<String>, AllocError>
     Ok(arguments)
 }
 
-/// All arguments after the first, which is the name of the program.
+/// Returns all arguments after the first, which is the name of the program.
 fn words_of(arguments: &[String]) -> &[String]
     ensures { result.now ≡ drop 1 arguments.now }
 {
@@ -56,7 +59,9 @@ fn words_of(arguments: &[String]) -> &[String]
     }
 }
 
-/// Runs the program with its arguments, and gives the status of how that ended. All arguments after the first are its words.
+/// Runs the program with its arguments, and returns the exit status. All arguments after the first are its words.
+///
+/// `clock_micros` is in microseconds since 1970-01-01 UTC.
 fn run<S: Source, K: Sink, H: Host>(
     alloc: Global,
     arguments: &[String],
@@ -71,7 +76,7 @@ fn run<S: Source, K: Sink, H: Host>(
         (record { content = H.content host.new; changes = H.changes host.new; faults = H.faults host.new })
         (HasRisen (S.faults source.old) (S.faults source.new)) (HasRisen (K.faults sink.old) (K.faults sink.new))
         (HasRisen (H.faults host.old) (H.faults host.new)) (exit_status result) }
-    // The source is not read for words without a meaning, those that name a folder, and those of a generated tree.
+    // The source is not read for words without a meaning, for those that name a folder, and for a generated tree.
     ensures unread { parse_args (map string_bytes (drop 1 arguments.now)) ≡ None → source.new ≡ source.old }
     ensures folder_alone { is_some (rooted_of (map string_bytes (drop 1 arguments.now))) ≡ true → source.new ≡ source.old }
     ensures generated { (seed count : ℕ) → parse_args (map string_bytes (drop 1 arguments.now)) ≡ Some (Generate seed count) → source.new ≡ source.old }
@@ -81,8 +86,8 @@ fn run<S: Source, K: Sink, H: Host>(
     ExitCode::from(status(&outcome))
 }
 
-/// Ends the program if the arguments could not be had. The status is 71 if memory ran out. Otherwise an argument is not
-/// UTF-8 text, and it is answered as a word without a meaning.
+/// Returns the exit status if the arguments could not be read. It is 71 if memory ran out. Otherwise an argument is not
+/// UTF-8 text, and the answer is that for words without a meaning.
 fn end_without_words<S: Source, K: Sink, H: Host>(
     alloc: Global,
     error: &io::Error,

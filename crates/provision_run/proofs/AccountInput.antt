@@ -27,7 +27,8 @@ use Rattle.pv_walk.specs.Staging.{GivesNew, is_under_any}
 use Rattle.pv_walk.proofs.RemovalLaws.{no_same}
 use Rattle.pv_create.proofs.BesideLaws.{new_outside, place_outside, published_outside, stage_outside}
 use Rattle.pv_sysusers.specs.declared.edit.Edit.{Edit}
-use Rattle.pv_sysusers.specs.Edits.{IsOfSome, PublishesEdit, StagesEdit, etc, new_file}
+use Rattle.pv_sysusers.specs.Edits.{IsOfSome, PublishesEdit, StagesEdit, new_file}
+use Rattle.pv_layers.specs.Places.{etc}
 use Rattle.pv_sysusers.specs.FileWriting.{AccountWay, IsAccountStep, IsEditOf, account_paths, swept_names}
 use Rattle.pv_sysusers.proofs.BesideLaws.{way_beside}
 use Rattle.pv_sysusers.proofs.SameLaws.{seen}

@@ -1,17 +1,14 @@
 -- Whatever a run on a folder answers, the folder holds an intermediate tree of it between any two changes that it asked for.
-use Rattle.std.specs.Prelude.{◌≡◌, ℕ, zero, suc, ◌<◌, ◌^◌, ◌+◌, min, List, [], ◌∷◌, ◌++◌, length, take, Option, Some, None, IfSome}
+use Rattle.std.specs.Prelude.{◌≡◌, ℕ, zero, suc, ◌<◌, ◌^◌, ◌+◌, List, [], ◌∷◌, ◌++◌, take, Option, Some, IfSome}
 use Rattle.std.proofs.Common.{refl, sym, ap, subst, ◌∙◌}
 use Rattle.pv_path.specs.Paths.{Path}
 use Rattle.pv_steps.specs.declared.step.Step.{Step}
-use Rattle.pv_steps.specs.Runs.{after_all}
-use Rattle.pv_steps.specs.Trees.{Files, IsTree}
-use Rattle.pv_text.specs.Facts.{Values}
 use Rattle.pv_words.specs.declared.options.Options.{Options}
-use Rattle.pv_folder.specs.Content.{Change, Content, Held, IsContent, held}
+use Rattle.pv_folder.specs.Content.{Change, Content, IsContent, held}
 use Rattle.pv_folder.specs.Folders.{tree_path}
 use Rattle.pv_folder.specs.Made.{all_changed}
 use Rattle.pv_folder.specs.Manifest.{manifest_of}
-use Rattle.pv_folder.specs.Moments.{CanBeDone, IsBetween, changes_of, closing, run_changes}
+use Rattle.pv_folder.specs.Moments.{CanBeDone, IsBetween, changes_of, closing}
 use Rattle.pv_folder.specs.Opening.{IsOpened}
 use Rattle.pv_folder.proofs.KeepingLaws.{opened_keeps}
 use Rattle.pv_folder.proofs.MadeLaws.{can_along, can_one_more}
@@ -19,8 +16,7 @@ use Rattle.pv_folder.proofs.MomentLaws.{between as between_changes}
 use Rattle.pv_folder.proofs.ReadyLaws.{ready_of}
 use Rattle.provision_run.specs.declared.outcome.Outcome.{Outcome}
 use Rattle.provision_run.specs.declared.outcome.Outcome.TheVariants.{Done, ConfigInvalid, NotCarriedOut, Usage, BadImage, NoFreeId, Memory, ReadFault, WriteFault, Stopped, BadFolder, FolderFailed}
-use Rattle.provision_run.specs.OnFolder.{AreAsked, HasWrittenOn, HoldsAlways, HostState, IsShortOn, WasOpened, all_done, before_steps, between, in_run, one_step_more, unasked}
-use Rattle.provision_run.specs.OverTree.{HasLeft}
+use Rattle.provision_run.specs.OnFolder.{AreAsked, HasWrittenOn, HoldsAlways, HostState, IsShortOn, all_done, before_steps, between, in_run, one_step_more, unasked}
 use Rattle.provision_run.specs.Whole.{run_way}
 use Rattle.provision_run.specs.Words.{moment_of}
 use Rattle.provision_run.proofs.FolderLaws.{short_answer}
@@ -46,12 +42,12 @@ part_of xs ys k n =
 
 -- ---- a run
 
-module _ (folder : Path) (options : Options) (clock : ℕ) (content : Content) (old new : HostState) (bound : moment_of options clock < 2 ^ 64)
+module _ (folder : Path) (options : Options) (clock_micros : ℕ) (content : Content) (old new : HostState) (bound : moment_of options clock_micros < 2 ^ 64)
     (is_content : IsContent (held content)) (told : old.content ≡ Some content) where
   abbrev moment : ℕ
-  moment = moment_of options clock
+  moment = moment_of options clock_micros
 
-  always_short : IsShortOn folder options clock old new → HoldsAlways folder options clock content old new
+  always_short : IsShortOn folder options clock_micros old new → HoldsAlways folder options clock_micros content old new
   always_short (before_steps same still) = unasked same still
   always_short (in_run facts tree left opened gone kept asked steps k made) =
       between facts tree left opened_here gone asked steps (changes_of (tree_path folder) tree asked moment ++ take k (closing folder (manifest_of facts left))) made at
@@ -74,17 +70,17 @@ module _ (folder : Path) (options : Options) (clock : ℕ) (content : Content) (
           (between_changes folder moment bound (manifest_of facts left) asked tree (held content) some.0 opened.0 (by_steps steps) keeps.agrees
           (ready_of (held content) is_content folder keeps.prepared))
 
-  pub always : (found : Outcome) (before after : Option (List ℕ)) → HasWrittenOn folder options clock old new found before after → HoldsAlways folder options clock content old new
+  pub always : (found : Outcome) (before after : Option (List ℕ)) → HasWrittenOn folder options clock_micros old new found before after → HoldsAlways folder options clock_micros content old new
   unfolding HasWrittenOn
-  always Done before after h = always_short (short_answer folder options clock old new Done h.1.0 h.1.1.0)
-  always ConfigInvalid before after h = always_short (short_answer folder options clock old new ConfigInvalid h.1.0 h.1.1.0)
-  always NotCarriedOut before after h = always_short (short_answer folder options clock old new NotCarriedOut h.1.0 h.1.1.0)
-  always Usage before after h = always_short (short_answer folder options clock old new Usage h.1.0 h.1.1.0)
-  always (BadImage f) before after h = always_short (short_answer folder options clock old new (BadImage f) h.1.0 h.1.1.0)
-  always (NoFreeId name) before after h = always_short (short_answer folder options clock old new (NoFreeId name) h.1.0 h.1.1.0)
+  always Done before after h = always_short (short_answer folder options clock_micros old new Done h.1.0 h.1.1.0)
+  always ConfigInvalid before after h = always_short (short_answer folder options clock_micros old new ConfigInvalid h.1.0 h.1.1.0)
+  always NotCarriedOut before after h = always_short (short_answer folder options clock_micros old new NotCarriedOut h.1.0 h.1.1.0)
+  always Usage before after h = always_short (short_answer folder options clock_micros old new Usage h.1.0 h.1.1.0)
+  always (BadImage f) before after h = always_short (short_answer folder options clock_micros old new (BadImage f) h.1.0 h.1.1.0)
+  always (NoFreeId name) before after h = always_short (short_answer folder options clock_micros old new (NoFreeId name) h.1.0 h.1.1.0)
   always Memory before after h = always_short h.0
   always ReadFault before after h = absurd h
-  always WriteFault before after h = always_short (short_answer folder options clock old new h.0 h.2.0 h.2.1.0)
-  always (Stopped n) before after h = always_short (short_answer folder options clock old new (Stopped n) h.1.0 h.1.1.0)
-  always (BadFolder f) before after h = always_short (short_answer folder options clock old new (BadFolder f) h.1.0 h.1.1.0)
-  always FolderFailed before after h = always_short (short_answer folder options clock old new FolderFailed h.1.0 h.1.1.0)
+  always WriteFault before after h = always_short (short_answer folder options clock_micros old new h.0 h.2.0 h.2.1.0)
+  always (Stopped n) before after h = always_short (short_answer folder options clock_micros old new (Stopped n) h.1.0 h.1.1.0)
+  always (BadFolder f) before after h = always_short (short_answer folder options clock_micros old new (BadFolder f) h.1.0 h.1.1.0)
+  always FolderFailed before after h = always_short (short_answer folder options clock_micros old new FolderFailed h.1.0 h.1.1.0)

@@ -1,5 +1,5 @@
 -- From a run over an image to the answer to its bytes.
-use Rattle.std.specs.Prelude.{◌≡◌, ◌≢◌, ◌⊎◌, ℕ, zero, suc, ◌+◌, ◌-◌, ◌<◌, ◌≤◌, min, IsTrue, true, false, List, [], ◌∷◌, ◌++◌, length, drop, Option, Some, None, Result, Ok, Err, IfOk, IfSome, IsErrOf}
+use Rattle.std.specs.Prelude.{◌≡◌, ◌⊎◌, ℕ, zero, suc, ◌+◌, ◌-◌, ◌<◌, ◌≤◌, min, IsTrue, true, false, List, [], ◌∷◌, ◌++◌, length, drop, Option, Some, None, Result, Ok, Err, IfOk, IfSome, IsErrOf}
 use Rattle.std.proofs.Common.{refl, subst, sym, ap, ◌∙◌, arith, inl, inr}
 use Rattle.std.proofs.lemmas.List.{append_cancel_left}
 use Rattle.std.proofs.Math.Nat.{eq-or-lt_of_le, min-le_right}
@@ -67,19 +67,19 @@ run_whole : (options : Options) (facts : Values) (moment : ℕ) (t : Files) (e :
     → (h : IsWhole options facts moment t found messages left) → (steps : List Step) → h.gone.steps ≡ steps → HasRunBy options facts moment t found messages left steps
 run_whole options facts moment t e found messages left is h steps by = whole_of options facts moment t found messages left (subst IsEnd (sym is) (ends e)) h steps by
 
-module _ (options : Options) (clock : ℕ) (input : List ℕ) (facts : Values) (t : Files) (image : IsImage input facts t) (fits : length input ≤ most_bytes) where
-  run_of : (found : Outcome) (out : List ℕ) → IsAnswered options facts (moment_of options clock) t found out → IsRun options clock input found out
+module _ (options : Options) (clock_micros : ℕ) (input : List ℕ) (facts : Values) (t : Files) (image : IsImage input facts t) (fits : length input ≤ most_bytes) where
+  run_of : (found : Outcome) (out : List ℕ) → IsAnswered options facts (moment_of options clock_micros) t found out → IsRun options clock_micros input found out
   run_of found out h = record { facts = facts; tree = t; image = image; fits = fits; answered = h }
 
   not_end : (found : Outcome) (messages : List (List ℕ)) (left : Files) (moment : ℕ) → IsWhole options facts moment t found messages left → IsEnd found
   not_end found messages left moment h = subst IsEnd (sym h.end) (ends (run_end options facts moment t))
 
-  answer_of : (found : Outcome) (out : List ℕ) → IsAnswered options facts (moment_of options clock) t found out → IsAnswer options clock input found out
+  answer_of : (found : Outcome) (out : List ℕ) → IsAnswered options facts (moment_of options clock_micros) t found out → IsAnswer options clock_micros input found out
   answer_of Done out h = run_of Done out h
   answer_of ConfigInvalid out h = run_of ConfigInvalid out h
   answer_of NotCarriedOut out h = run_of NotCarriedOut out h
-  answer_of Usage out h = not_end Usage h.messages h.left (moment_of options clock) h.run
-  answer_of (BadImage f) out h = absurd (not_end (BadImage f) h.messages h.left (moment_of options clock) h.run)
+  answer_of Usage out h = not_end Usage h.messages h.left (moment_of options clock_micros) h.run
+  answer_of (BadImage f) out h = absurd (not_end (BadImage f) h.messages h.left (moment_of options clock_micros) h.run)
   answer_of (NoFreeId name) out h = run_of (NoFreeId name) out h
   answer_of Memory out h = run_of Memory out h
   answer_of ReadFault out h = run_of ReadFault out h
@@ -89,61 +89,10 @@ module _ (options : Options) (clock : ℕ) (input : List ℕ) (facts : Values) (
   answer_of FolderFailed out h = run_of FolderFailed out h
 
   -- what was answered over an image is the answer to its bytes
-  pub answers : {E : Type 0} (r : Result Answer E) → IfOk r (λ a. IsAnswered options facts (moment_of options clock) t a.outcome a.output.items)
-      → IfOk r (λ a. IsAnswer options clock input a.outcome a.output.items)
+  pub answers : {E : Type 0} (r : Result Answer E) → IfOk r (λ a. IsAnswered options facts (moment_of options clock_micros) t a.outcome a.output.items)
+      → IfOk r (λ a. IsAnswer options clock_micros input a.outcome a.output.items)
   answers (Ok a) h = answer_of a.outcome a.output.items h
   answers (Err f) h = tt
-
--- an answer to an input has an output of its own, and does not blame the words
-own_of_end : (found : Outcome) → IsEnd found → IsOwn found × (found ≢ Usage)
-own_of_end Done h = (tt, λ e. cc)
-own_of_end ConfigInvalid h = (tt, λ e. cc)
-own_of_end NotCarriedOut h = (tt, λ e. cc)
-own_of_end (NoFreeId name) h = (tt, λ e. cc)
-own_of_end Usage h = absurd h
-own_of_end (BadImage f) h = absurd h
-own_of_end Memory h = absurd h
-own_of_end ReadFault h = absurd h
-own_of_end WriteFault h = absurd h
-own_of_end (Stopped n) h = absurd h
-own_of_end (BadFolder f) h = absurd h
-own_of_end FolderFailed h = absurd h
-
-own_of_run : (options : Options) (clock : ℕ) (input : List ℕ) (found : Outcome) (out : List ℕ) → IsRun options clock input found out → IsOwn found × (found ≢ Usage)
-own_of_run options clock input found out run = by found run.answered
-  where
-    by : (o : Outcome) → IsAnswered options run.facts (moment_of options clock) run.tree o out → IsOwn o × (o ≢ Usage)
-    by (Stopped n) h = (tt, λ e. cc)
-    by Done h = (tt, λ e. cc)
-    by ConfigInvalid h = (tt, λ e. cc)
-    by NotCarriedOut h = (tt, λ e. cc)
-    by (NoFreeId name) h = (tt, λ e. cc)
-    by (BadImage f) h = (tt, λ e. cc)
-    by Usage h = own_of_end Usage (subst IsEnd (sym h.run.end) (ends (run_end options run.facts (moment_of options clock) run.tree)))
-    by Memory h = own_of_end Memory (subst IsEnd (sym h.run.end) (ends (run_end options run.facts (moment_of options clock) run.tree)))
-    by ReadFault h = own_of_end ReadFault (subst IsEnd (sym h.run.end) (ends (run_end options run.facts (moment_of options clock) run.tree)))
-    by WriteFault h = own_of_end WriteFault (subst IsEnd (sym h.run.end) (ends (run_end options run.facts (moment_of options clock) run.tree)))
-    by (BadFolder f) h = own_of_end (BadFolder f) (subst IsEnd (sym h.run.end) (ends (run_end options run.facts (moment_of options clock) run.tree)))
-    by FolderFailed h = own_of_end FolderFailed (subst IsEnd (sym h.run.end) (ends (run_end options run.facts (moment_of options clock) run.tree)))
-
-pub own_of_answer : (options : Options) (clock : ℕ) (input : List ℕ) (found : Outcome) (out : List ℕ) → IsAnswer options clock input found out → IsOwn found × (found ≢ Usage)
-own_of_answer options clock input (BadImage f) out h = (tt, λ e. cc)
-own_of_answer options clock input Usage out h = absurd h
-own_of_answer options clock input Done out h = own_of_run options clock input Done out h
-own_of_answer options clock input ConfigInvalid out h = own_of_run options clock input ConfigInvalid out h
-own_of_answer options clock input NotCarriedOut out h = own_of_run options clock input NotCarriedOut out h
-own_of_answer options clock input (NoFreeId name) out h = own_of_run options clock input (NoFreeId name) out h
-own_of_answer options clock input Memory out h = own_of_run options clock input Memory out h
-own_of_answer options clock input ReadFault out h = own_of_run options clock input ReadFault out h
-own_of_answer options clock input WriteFault out h = own_of_run options clock input WriteFault out h
-own_of_answer options clock input (Stopped n) out h = own_of_run options clock input (Stopped n) out h
-own_of_answer options clock input (BadFolder f) out h = own_of_run options clock input (BadFolder f) out h
-own_of_answer options clock input FolderFailed out h = own_of_run options clock input FolderFailed out h
-
-pub answers_own : (options : Options) (clock : ℕ) (input : List ℕ) {E : Type 0} (r : Result Answer E) → IfOk r (λ a. IsAnswer options clock input a.outcome a.output.items)
-    → IfOk r (λ a. IsOwn a.outcome × (a.outcome ≢ Usage))
-answers_own options clock input (Ok a) h = own_of_answer options clock input a.outcome a.output.items h
-answers_own options clock input (Err f) h = tt
 
 -- the two ends are not blamed by an outcome with an output of its own
 pub own_not_read : (found : Outcome) → IsOwn found → found ≡ ReadFault → ⊥
@@ -216,7 +165,7 @@ module _ (options : Options) (facts : Values) (moment : ℕ) (t u : Files) (h k 
           let none : length h ≡ 0 = ap length start in
           let many : length k ≡ length ran.steps = ap length all_told in
           omega (arith, many, bound, none);
-      front = front_by (task_of options) options facts moment t (drop (length h) k) stopped.0 messages stopped.1.1 stopped.1.0 part;
+      prefix = front_by (task_of options) options facts moment t (drop (length h) k) stopped.0 messages stopped.1.1 stopped.1.0 part;
       at_work = subst (λ (steps : List Step). IsCutBy (task_of options) options facts moment 1 t steps stopped.0) added stopped.1.1;
     }
 

@@ -1,7 +1,7 @@
 -- Removing and creating as the two phases of the boot command: one that failed, and both.
 use Rattle.std.specs.Prelude.{◌≡◌, ℕ, Bool, true, false, ◌||◌, List, [], ◌∷◌, ◌++◌, Result, Ok, Err, IfOk, IsErrAnd, OnOk}
 use Rattle.std.proofs.Common.{refl}
-use Rattle.pv_create.specs.Ways.{lines_course}
+use Rattle.pv_create.specs.OnTheWay.{lines_course}
 use Rattle.pv_steps.specs.Courses.{Partway, IsStepOfSome, carried_of, each_of, CarriesOut, Cut, HasGone}
 use Rattle.pv_steps.specs.declared.carried.Carried.{Carried}
 use Rattle.pv_steps.specs.declared.carried.Carried.TheVariants.{Whole, NotCarriedOut}

@@ -3,8 +3,7 @@ use Rattle.std.specs.Prelude.{◌≡◌, ◌⊎◌, ℕ, ◌<◌, ◌^◌, Bool,
 use Rattle.std.proofs.Common.{refl, sym, ap, subst, ◌∙◌, inl, inr, arith}
 use Rattle.std.proofs.Math.Seq.{drop-append_seam}
 use Rattle.std.specs.List.{AllByRecursion}
-use Rattle.pv_create.specs.OnTheWay.{IsGiven, GiveWhatLinesLeave}
-use Rattle.pv_create.specs.Ways.{lines_course}
+use Rattle.pv_create.specs.OnTheWay.{IsGiven, GiveWhatLinesLeave, lines_course}
 use Rattle.pv_create.proofs.BridgeLaws.{partway_whole, run_way}
 use Rattle.pv_create.proofs.StepLaws.{removed_gives, step_given}
 use Rattle.pv_steps.specs.Courses.{Partway, IsStepOfSome}
@@ -38,7 +37,7 @@ use Rattle.pv_steps.specs.Trees.{Files, IsTree, places}
 use Rattle.pv_steps.proofs.RunLaws.{along_prefix, along_trees}
 use Rattle.pv_table.specs.Active.{are_distinct, in_create_order}
 use Rattle.pv_table.specs.Asked.{operations_of}
-use Rattle.pv_table.specs.Created.{created, IsQuiet}
+use Rattle.pv_table.specs.Created.{created, RefusesNoLine}
 use Rattle.pv_table.specs.Pointwise.{ObjectStates}
 use Rattle.pv_table.specs.Removed.{is_gone, is_unfinished, removed}
 use Rattle.pv_table.specs.Repeatable.{IsRepeatable}
@@ -108,7 +107,7 @@ module _ (lines : List Line) (are : AllByRecursion IsLine lines) where
 
   -- on its way it removes, or each path is between two lines of creating
   pub boot_between : (now : ℕ) (t u : Files) → now < 2 ^ 64 → IsTree t → Partway (phases_course lines now) boot_phases t u
-      → Pruned (is_gone lines t) t u ⊎ ((s : ObjectStates) → IsRepeatable lines → IsQuiet lines now (removed lines now t) → Agree s (removed lines now t) → IsOnTheWay lines s u)
+      → Pruned (is_gone lines t) t u ⊎ ((s : ObjectStates) → IsRepeatable lines → RefusesNoLine lines now (removed lines now t) → Agree s (removed lines now t) → IsOnTheWay lines s u)
   boot_between now t u fits tree (inl pruned) = inl pruned
   boot_between now t u fits tree (inr way) = inr (λ s repeatable quiet agree.
       copies_on_the_way lines now s (removed lines now t) u (removed_tree lines now t fits tree) quiet agree are repeatable (law_way now t u tree way))
@@ -119,8 +118,8 @@ module _ (lines : List Line) (are : AllByRecursion IsLine lines) where
   none_past = omega arith
 
   -- from the first of these trees creating refuses no line after removing, at some moment
-  quiet_first : (moments : List ℕ) (later : ℕ) (t u : Files) → StoppedBoots lines moments t u → IsQuiet lines later (removed lines later u) → (now : ℕ) × IsQuiet lines now (removed lines now t)
-  quiet_first [] later t u same quiet = (later, subst (λ (v : Files). IsQuiet lines later (removed lines later v)) same quiet)
+  quiet_first : (moments : List ℕ) (later : ℕ) (t u : Files) → StoppedBoots lines moments t u → RefusesNoLine lines later (removed lines later u) → (now : ℕ) × RefusesNoLine lines now (removed lines now t)
+  quiet_first [] later t u same quiet = (later, subst (λ (v : Files). RefusesNoLine lines later (removed lines later v)) same quiet)
   quiet_first (now ∷ moments) later t u runs quiet = (now, runs.0)
 
   module _ (none : AllByRecursion CopiesNothing lines) (distinct : are_distinct lines ≡ true) (repeatable : IsRepeatable lines) (s : Files) (start : IsTree s) (whole : is_unfinished lines s ≡ false) where
@@ -130,7 +129,7 @@ module _ (lines : List Line) (are : AllByRecursion IsLine lines) where
         → run (operations_of (in_create_order lines) q) (object_states_of (places (removed lines 0 x)) q) ≡ run (operations_of (in_create_order lines) q) (object_states_of (places (removed lines 0 s)) q)
 
     -- so after one more run that was cut short
-    still_alike : (now : ℕ) (x v : Files) → IsTree x → IsTree v → IsQuiet lines now (removed lines now x) → Partway (phases_course lines now) boot_phases x v → EndsAlike x → EndsAlike v
+    still_alike : (now : ℕ) (x v : Files) → IsTree x → IsTree v → RefusesNoLine lines now (removed lines now x) → Partway (phases_course lines now) boot_phases x v → EndsAlike x → EndsAlike v
     unfolding EndsAlike
     still_alike now x v tree there quiet (inl pruned) ends q plain named =
         ap (run (operations_of (in_create_order lines) q)) (object_states_of-same (places (removed lines 0 v)) (places (removed lines 0 x)) q (removal_recovers lines 0 0 x v there pruned q plain))
@@ -156,7 +155,7 @@ module _ (lines : List Line) (are : AllByRecursion IsLine lines) where
     unfolding EndsAlike
     begins_alike = λ q plain named. refl
 
-    pub boots_recover : (moments : List ℕ) (now later : ℕ) (u : Files) → IsTree u → StoppedBoots lines moments s u → IsQuiet lines later (removed lines later u) → Same (booted lines later u) (booted lines now s)
+    pub boots_recover : (moments : List ℕ) (now later : ℕ) (u : Files) → IsTree u → StoppedBoots lines moments s u → RefusesNoLine lines later (removed lines later u) → Same (booted lines later u) (booted lines now s)
     unfolding EndsAlike
     boots_recover moments now later u there runs again q plain =
         booted_same lines later 0 u q plain
@@ -167,7 +166,7 @@ module _ (lines : List Line) (are : AllByRecursion IsLine lines) where
         ∙ sym (created_point lines are none 0 (removed lines 0 s) (removed_tree lines 0 s none_past start) (quiet_same lines first.0 0 (removed lines first.0 s) (removed lines 0 s) (removed_same lines first.0 0 s) first.1) q plain)))
         ∙ booted_same lines 0 now s q plain
       where
-        first : (m : ℕ) × IsQuiet lines m (removed lines m s)
+        first : (m : ℕ) × RefusesNoLine lines m (removed lines m s)
         first = quiet_first moments later s u runs again
 
         made_shaped : (v : Files) → IsTree v → IsShaped (object_states_of (places (created lines 0 (removed lines 0 v))))
@@ -208,7 +207,7 @@ module _ (lines : List Line) (are : AllByRecursion IsLine lines) where
 
   -- ---- each step gives what lines leave, from what removing leaves
 
-  module _ (now : ℕ) (fits : now < 2 ^ 64) (t : Files) (tree : IsTree t) (s : ObjectStates) (repeatable : IsRepeatable lines) (quiet : IsQuiet lines now (removed lines now t)) (agree : Agree s (removed lines now t)) where
+  module _ (now : ℕ) (fits : now < 2 ^ 64) (t : Files) (tree : IsTree t) (s : ObjectStates) (repeatable : IsRepeatable lines) (quiet : RefusesNoLine lines now (removed lines now t)) (agree : Agree s (removed lines now t)) where
     boot_step_given : (step : Step) → IsStepOfSome (phases_course lines now) boot_phases t step → IsGiven lines s step
     boot_step_given step (inl removes) =
         let root = some_directory (object_states_of (places (removed lines now t)) []) (shaped now t tree).root in

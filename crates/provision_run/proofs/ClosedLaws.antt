@@ -13,7 +13,7 @@ use Rattle.pv_folder.specs.Folders.{Agrees, IsSameElse, manifest_path, new_manif
 use Rattle.pv_folder.specs.Keeping.{HasManifest, IsAtMostAhead, IsClosed, IsSameButNew, IsSameOutside, ahead, level, with_manifest}
 use Rattle.pv_folder.specs.Manifest.{IsManifest, manifest_of}
 use Rattle.pv_folder.proofs.BelowLaws.{beside}
-use Rattle.provision_run.specs.OnFolder.{IfTold, IsKept, IsSameBeside, IsShort, IsUnclosed, new_one, old_one}
+use Rattle.provision_run.specs.OnFolder.{IfKnown, IsKept, IsSameBeside, IsShort, IsUnclosed, new_one, old_one}
 
 -- ---- paths told apart
 
@@ -130,7 +130,7 @@ none_of (Some z) e = let no : Some (held z) ≡ None = e in cc
 
 module _ (folder : Path) (P : Held → Type 0) (Q : Held → Held → Type 0) where
   told_closed : (bytes : List ℕ) → ((x y z : Held) → IsSameElse folder x y → z ≡ with_manifest folder bytes y → P y → Q x z) → (old mid new : Option Content)
-      → IsSameOutside folder old mid → IfSome mid (λ c. P (held c)) → HasManifest folder bytes mid new → IfTold Q old new
+      → IsSameOutside folder old mid → IfSome mid (λ c. P (held c)) → HasManifest folder bytes mid new → IfKnown Q old new
   told_closed bytes by None mid new outside holds has = none_of new (subst (λ (o : Option Content). HasManifest folder bytes o new) outside has)
   told_closed bytes by (Some x) None new outside holds has = absurd outside
   told_closed bytes by (Some x) (Some y) None outside holds has = absurd (let no : None ≡ Some (with_manifest folder bytes (held y)) = has in cc)
@@ -139,23 +139,23 @@ module _ (folder : Path) (P : Held → Type 0) (Q : Held → Held → Type 0) wh
       by (held x) (held y) (held z) outside (let same : held z ≡ with_manifest folder bytes (held y) = (cc) in same) holds
 
   told_unclosed : ((x y z : Held) → IsSameElse folder x y → ((path : Path) → path ≢ new_manifest_path folder → z path ≡ y path) → P y → Q x z) → (old mid new : Option Content)
-      → IsSameOutside folder old mid → IfSome mid (λ c. P (held c)) → IsSameButNew folder mid new → IfTold Q old new
+      → IsSameOutside folder old mid → IfSome mid (λ c. P (held c)) → IsSameButNew folder mid new → IfKnown Q old new
   told_unclosed by None mid new outside holds same = subst (λ (o : Option Content). IsSameButNew folder o new) outside same
   told_unclosed by (Some x) None new outside holds same = absurd outside
   told_unclosed by (Some x) (Some y) None outside holds same = absurd same
   told_unclosed by (Some x) (Some y) (Some z) outside holds same = by (held x) (held y) (held z) outside same holds
 
 module _ (folder : Path) (facts : Values) (left : Files) (old mid new : Option Content) (outside : IsSameOutside folder old mid) where
-  pub kept_in : IfSome mid (λ c. Agrees folder left (held c)) → IsClosed folder facts left mid new → IsManifest facts left → IfTold (IsKept folder facts left) old new
+  pub kept_in : IfSome mid (λ c. Agrees folder left (held c)) → IsClosed folder facts left mid new → IsManifest facts left → IfKnown (IsKept folder facts left) old new
   kept_in agrees closed image =
       told_closed folder (Agrees folder left) (IsKept folder facts left) (manifest_of facts left) (λ x y z out is holds. kept_held folder facts left x y z out is image holds) old mid new outside agrees closed
 
-  pub unclosed_in : IfSome mid (λ c. Agrees folder left (held c)) → IsSameButNew folder mid new → IfTold (IsUnclosed folder left) old new
+  pub unclosed_in : IfSome mid (λ c. Agrees folder left (held c)) → IsSameButNew folder mid new → IfKnown (IsUnclosed folder left) old new
   unclosed_in agrees same =
       told_unclosed folder (Agrees folder left) (IsUnclosed folder left) (λ x y z out is holds. unclosed_held folder facts left x y z out is holds) old mid new outside agrees same
 
   pub short_in : (closed : Result (Unit {0}) HostFault) → IfSome mid (λ c. IsAtMostAhead folder left (held c)) → OnOk closed (IsClosed folder facts left mid new)
-      → OnOk closed (IsManifest facts left) → OnErr closed (IsSameButNew folder mid new) → IfTold (IsShort folder facts left) old new
+      → OnOk closed (IsManifest facts left) → OnErr closed (IsSameButNew folder mid new) → IfKnown (IsShort folder facts left) old new
   short_in (Ok done) near closed image same =
       told_closed folder (IsAtMostAhead folder left) (IsShort folder facts left) (manifest_of facts left) (λ x y z out is holds. closed_short folder facts left x y z out is image holds) old mid new outside near closed
   short_in (Err fault) near closed image same =
@@ -163,12 +163,12 @@ module _ (folder : Path) (facts : Values) (left : Files) (old mid new : Option C
 
 -- ---- what is kept is no less
 
-pub kept_short : (folder : Path) (facts : Values) (left : Files) (old new : Option Content) → IfTold (IsKept folder facts left) old new → IfTold (IsShort folder facts left) old new
+pub kept_short : (folder : Path) (facts : Values) (left : Files) (old new : Option Content) → IfKnown (IsKept folder facts left) old new → IfKnown (IsShort folder facts left) old new
 kept_short folder facts left (Some x) (Some y) kept = record { near = level kept.agrees; manifest = new_one kept.manifest kept.image; outside = kept.outside }
 kept_short folder facts left (Some x) None kept = kept
 kept_short folder facts left None new kept = kept
 
-pub unclosed_is_short : (folder : Path) (facts : Values) (left : Files) (old new : Option Content) → IfTold (IsUnclosed folder left) old new → IfTold (IsShort folder facts left) old new
+pub unclosed_is_short : (folder : Path) (facts : Values) (left : Files) (old new : Option Content) → IfKnown (IsUnclosed folder left) old new → IfKnown (IsShort folder facts left) old new
 unclosed_is_short folder facts left (Some x) (Some y) kept = record { near = level kept.agrees; manifest = old_one kept.manifest; outside = kept.outside }
 unclosed_is_short folder facts left (Some x) None kept = kept
 unclosed_is_short folder facts left None new kept = kept

@@ -7,7 +7,7 @@ use Rattle.pv_explain.specs.declared.explained.Explained.{Explained}
 use Rattle.pv_lines.specs.declared.line.Line.{Line}
 use Rattle.pv_path.specs.Paths.{Path, has_staging}
 use Rattle.pv_steps.specs.Trees.{Files, places}
-use Rattle.pv_table.specs.Created.{created, IsQuiet}
+use Rattle.pv_table.specs.Created.{created, RefusesNoLine}
 use Rattle.pv_table.specs.Repeatable.{IsRepeatable}
 use Rattle.pv_text.specs.Facts.{Values}
 use Rattle.pv_words.specs.declared.options.Options.{Options}
@@ -16,7 +16,7 @@ use Rattle.provision_run.specs.Phased.{run_lines}
 
 -- what lines leave at a path in a run that refuses none, where none has a hazard
 abbrev pub IsLeft : Path → Files → Explained → List Line → Type 0
-IsLeft path t stated lines = (moment : ℕ) → IsRepeatable lines → IsQuiet lines moment t → has_staging path ≡ false
+IsLeft path t stated lines = (moment : ℕ) → IsRepeatable lines → RefusesNoLine lines moment t → has_staging path ≡ false
     → option_map object_state_in stated.node ≡ object_states_of (places (created lines moment t)) path
 
 -- an explanation by lines that were read

@@ -78,12 +78,12 @@ record HasGoneOn (folder : Path) (options : Options) (moment : ℕ) (old new : C
   gone : HasLeft options facts moment tree left
   kept : IsKept folder facts left (held old) (held new)
 
-gone_on : (folder : Path) (options : Options) (clock : ℕ) (old new : Content) → WasBrokenOff folder options clock old new → HasGoneOn folder options (moment_of options clock) old new
-gone_on folder options clock old new (stopped count messages run) =
+gone_on : (folder : Path) (options : Options) (clock_micros : ℕ) (old new : Content) → WasBrokenOff folder options clock_micros old new → HasGoneOn folder options (moment_of options clock_micros) old new
+gone_on folder options clock_micros old new (stopped count messages run) =
     record { facts = run.facts; tree = run.tree; left = run.left; opened = run.opened.1; gone = run.run.cut.gone; kept = run.kept }
-gone_on folder options clock old new (failed messages cut) =
+gone_on folder options clock_micros old new (failed messages cut) =
     record { facts = cut.facts; tree = cut.tree; left = cut.left; opened = cut.opened.1; gone = cut.run.1.1.gone; kept = cut.kept }
-gone_on folder options clock old new (short facts tree left opened gone kept) =
+gone_on folder options clock_micros old new (short facts tree left opened gone kept) =
     record { facts = facts; tree = tree; left = left; opened = opened; gone = gone; kept = kept }
 
 -- what runs that were broken off have left: a tree with which the folder is opened, and all else as it was
@@ -97,8 +97,8 @@ module _ (options : Options) (folder : Path) where
   module _ (facts : Values) (t : Files) (old new : Content) (opens : OpensWith folder old facts t) (moment : ℕ) where
     -- one that was broken off
     module _ (stop : HasStoppedOn options folder moment old new) where
-      abbrev there : HasGoneOn (spelled stop.like.own.folder) stop.like.own.options (moment_of stop.like.own.options stop.clock) old new
-      there = gone_on (spelled stop.like.own.folder) stop.like.own.options stop.clock old new stop.broken
+      abbrev there : HasGoneOn (spelled stop.like.own.folder) stop.like.own.options (moment_of stop.like.own.options stop.clock_micros) old new
+      there = gone_on (spelled stop.like.own.folder) stop.like.own.options stop.clock_micros old new stop.broken
 
       opened_there : IsOpened folder old there.facts there.tree
       opened_there = subst (λ (f : Path). IsOpened f old there.facts there.tree) stop.like.named there.opened
@@ -114,8 +114,8 @@ module _ (options : Options) (folder : Path) where
       left_here : HasLeft stop.like.own.options facts moment t there.left
       left_here =
           subst (λ (m : ℕ). HasLeft stop.like.own.options facts m t there.left) (sym stop.like.when)
-          (subst (λ (s : Files). HasLeft stop.like.own.options facts (moment_of stop.like.own.options stop.clock) s there.left) same_there.1
-          (subst (λ (f : Values). HasLeft stop.like.own.options f (moment_of stop.like.own.options stop.clock) there.tree there.left) same_there.0 there.gone))
+          (subst (λ (s : Files). HasLeft stop.like.own.options facts (moment_of stop.like.own.options stop.clock_micros) s there.left) same_there.1
+          (subst (λ (f : Values). HasLeft stop.like.own.options f (moment_of stop.like.own.options stop.clock_micros) there.tree there.left) same_there.0 there.gone))
 
       has_stopped : HasStopped (unlimited options) facts moment t there.left
       has_stopped = broken_by options stop.like.own.options stop.like.alike facts moment t there.left left_here
@@ -144,8 +144,8 @@ module _ (options : Options) (folder : Path) where
       whole_run : HasRun whole.like.own.options facts moment t (outcome_of whole.end) whole.messages whole.run.left
       whole_run =
           subst (λ (m : ℕ). HasRun whole.like.own.options facts m t (outcome_of whole.end) whole.messages whole.run.left) (sym whole.like.when)
-          (subst (λ (s : Files). HasRun whole.like.own.options facts (moment_of whole.like.own.options whole.clock) s (outcome_of whole.end) whole.messages whole.run.left) whole_same.1
-          (subst (λ (f : Values). HasRun whole.like.own.options f (moment_of whole.like.own.options whole.clock) whole.run.tree (outcome_of whole.end) whole.messages whole.run.left) whole_same.0 whole.run.run))
+          (subst (λ (s : Files). HasRun whole.like.own.options facts (moment_of whole.like.own.options whole.clock_micros) s (outcome_of whole.end) whole.messages whole.run.left) whole_same.1
+          (subst (λ (f : Values). HasRun whole.like.own.options f (moment_of whole.like.own.options whole.clock_micros) whole.run.tree (outcome_of whole.end) whole.messages whole.run.left) whole_same.0 whole.run.run))
 
       pub whole_kept : IsKept folder facts (final (unlimited options) facts moment t) (held old) (held new)
       whole_kept =

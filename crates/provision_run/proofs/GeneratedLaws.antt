@@ -9,21 +9,15 @@ use Rattle.pv_overlap.specs.declared.listing.Report.{Report}
 use Rattle.pv_steps.specs.Trees.{Files}
 use Rattle.pv_table.specs.Repeatable.{IsRepeatable}
 use Rattle.pv_text.specs.Facts.{Values}
-use Rattle.pv_words.specs.declared.options.Options.{Options}
-use Rattle.provision_run.specs.Generated.{IsToldOf, create_alone, created, created_text, generated_moment, generated_text, lines_in, no_facts, overlaps_text}
+use Rattle.provision_run.specs.Generated.{IsGeneratedOutput, create_alone, created, created_text, generated_moment, generated_text, lines_in, no_facts, overlaps_text}
 use Rattle.provision_run.specs.Messages.{message, messages_text}
 use Rattle.provision_run.specs.Tasks.{task_of}
-use Rattle.provision_run.specs.Whole.{HasMessagesBy, final}
+use Rattle.provision_run.specs.Whole.{HasMessagesBy}
 
 -- the lines that are read without facts and file words
 pub read_lines : (t : Files) (facts : Values) (words : List (List ℕ)) (lines : List Line) → lines ≡ (configured t facts words).lines → facts ≡ no_facts → words ≡ [] → lines ≡ lines_in t
 read_lines t facts words lines read known none =
     read ∙ ap (λ (f : Values). (configured t f words).lines) known ∙ ap (λ (w : List (List ℕ)). (configured t no_facts w).lines) none
-
--- the tree that is left
-pub left_by : (t u : Files) (options : Options) (facts : Values) → u ≡ final options facts generated_moment t → options ≡ create_alone → facts ≡ no_facts → u ≡ created t
-left_by t u options facts left is known =
-    left ∙ ap (λ (o : Options). final o facts generated_moment t) is ∙ ap (λ (f : Values). final create_alone f generated_moment t) known
 
 -- three messages, one after the other
 three_messages : (a b c one two three : List ℕ) → one ≡ [] ++ message a → two ≡ one ++ message b → three ≡ two ++ message c → three ≡ messages_text (a ∷ b ∷ c ∷ [])
@@ -47,7 +41,7 @@ pub stated : (lines : ℕ) (t u : Files) (before after count : ℕ) (messages : 
     → HasMessagesBy (task_of create_alone) create_alone no_facts generated_moment t [] messages
     → ListsOverlaps (lines_in t) report.pairs → ListsReasons (lines_in t) report.unrepeatable → (report.unrepeatable ≡ []) ↔ IsRepeatable (lines_in t)
     → text ≡ messages_text (generated_text lines before ∷ created_text after count ∷ overlaps_text (length report.pairs) (verdict report.unrepeatable) ∷ [])
-    → IsToldOf lines t text
+    → IsGeneratedOutput lines t text
 stated lines t u before after count messages report text nodes left run many new_messages overlaps reasons verdict_is is =
     let third : List ℕ = overlaps_text (length report.pairs) (verdict report.unrepeatable) in
     record {

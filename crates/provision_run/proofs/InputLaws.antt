@@ -8,7 +8,7 @@ use Rattle.pv_clean.proofs.InputLaws.{cleaning_leaves, named_unaged}
 use Rattle.pv_create.proofs.BridgeLaws.{partway_whole}
 use Rattle.pv_create.proofs.InputLaws.{all_away, held, held_of, lines_held}
 use Rattle.pv_create.proofs.LeavingInput.{all_input_left, held_some, IsOutsideFolders, lines_outside}
-use Rattle.pv_create.specs.Ways.{lines_course}
+use Rattle.pv_create.specs.OnTheWay.{lines_course}
 use Rattle.pv_steps.specs.Courses.{Partway, IsStepOfSome}
 use Rattle.pv_walk.specs.Nodes.{object_states_of}
 use Rattle.pv_walk.proofs.OperationLaws.{object_states_of-same}

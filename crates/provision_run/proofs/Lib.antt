@@ -16,7 +16,7 @@ pub mod RereadingLaws
 pub mod RunLaws
 pub mod StopsLaws
 pub mod FolderRecovery
-pub mod KillMending
+pub mod KillRecovery
 pub mod TaskLaws
 pub mod WrittenLaws
 pub mod TopLaws

@@ -5,7 +5,7 @@ use Rattle.std.proofs.lemmas.List.{append_cancel_left}
 use Rattle.std.proofs.Math.Seq.{drop-length, take-nil}
 use Rattle.pv_clean.specs.Cleaning.{IsCleanStep}
 use Rattle.pv_clean.proofs.CleanLaws.{takes_only}
-use Rattle.pv_create.specs.Ways.{lines_course}
+use Rattle.pv_create.specs.OnTheWay.{lines_course}
 use Rattle.pv_create.proofs.LineLaws.{line_start}
 use Rattle.pv_steps.specs.Courses.{AtWork, Cut, HasGone, Partway, IsStepOfSome, single, carried_of}
 use Rattle.pv_steps.specs.declared.carried.Carried.{Carried}

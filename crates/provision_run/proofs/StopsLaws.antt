@@ -30,7 +30,7 @@ use Rattle.provision_run.specs.Accounts.{run_requests}
 use Rattle.provision_run.specs.Answers.{HasOutputBy, IsAnswer, IsAnswered, IsRun}
 use Rattle.provision_run.specs.OverTree.{HasLeft, HasRun, IsStopped, IsWhole, outcome_of}
 use Rattle.provision_run.specs.Phased.{phased, run_lines}
-use Rattle.provision_run.specs.Rereading.{AccountsRecoverAnew, AreRequestsReread, ArePlain, ArePlainRequests, RecoversAnew, IsQuietBy, IsReread, MayRecover, MayRepeat}
+use Rattle.provision_run.specs.Rereading.{AccountsRecoverAnew, AreRequestsReread, ArePlain, ArePlainRequests, RecoversAnew, RefusesNoLineBy, IsReread, MayRecover, MayRepeat}
 use Rattle.provision_run.specs.Stops.{AreImages, EndAlikeAfter, HasEndedOver, HasStopped, HasStoppedOver, HaveStopped, HaveStoppedOver, IsCalm, IsCalmOver, unlimited}
 use Rattle.provision_run.specs.Tasks.{task_of}
 use Rattle.provision_run.specs.Whole.{final, final_by, RecoversAnewIn}
@@ -45,7 +45,7 @@ none_done t (step ∷ steps) now = refl
 -- ---- phases, over trees
 
 -- that no line is refused at a turn needs no moment
-quiet_by : (phases : List Phase) (lines : List Line) (now later : ℕ) (t : Files) → IsQuietBy phases lines now t → IsQuietBy phases lines later t
+quiet_by : (phases : List Phase) (lines : List Line) (now later : ℕ) (t : Files) → RefusesNoLineBy phases lines now t → RefusesNoLineBy phases lines later t
 quiet_by (Create ∷ []) lines now later t quiet = quiet_same lines now later t t (λ q. refl) quiet
 quiet_by (Remove ∷ Create ∷ []) lines now later t quiet = quiet_same lines now later (removed lines now t) (removed lines later t) (removed_same lines now later t) quiet
 quiet_by [] lines now later t quiet = tt
@@ -68,7 +68,7 @@ module _ (options : Options) (facts : Values) where
       calm.0,
       (
         quiet_by (phases_of options) (run_lines options facts t) calm.1.0 moment t calm.1.1,
-        quiet_by (phases_of options) (run_lines options facts t) still.1.0 later u (subst (λ (lines : List Line). IsQuietBy (phases_of options) lines still.1.0 u) same still.1.1),
+        quiet_by (phases_of options) (run_lines options facts t) still.1.0 later u (subst (λ (lines : List Line). RefusesNoLineBy (phases_of options) lines still.1.0 u) same still.1.1),
       ),
     ),
   )
@@ -215,15 +215,15 @@ module _ (options : Options) where
   module _ (input : List ℕ) (facts : Values) (t : Files) (image : IsImage input facts t) (moment : ℕ) where
     -- one that was stopped has left a tree of which its output is an image
     module _ (out : List ℕ) (over : HasStoppedOver options moment input out) where
-      stopped_run : IsRun over.like.own over.clock input (Stopped over.count) out
-      stopped_run = subst (λ (o : Option Invocation). HasOutputBy o over.clock input (Stopped over.count) out) over.like.meaning over.output.1
+      stopped_run : IsRun over.like.own over.clock_micros input (Stopped over.count) out
+      stopped_run = subst (λ (o : Option Invocation). HasOutputBy o over.clock_micros input (Stopped over.count) out) over.like.meaning over.output.1
 
       answered_here : IsAnswered over.like.own facts moment t (Stopped over.count) out
       answered_here =
           let same = one_image input stopped_run.facts facts stopped_run.tree t stopped_run.image image in
           subst (λ (m : ℕ). IsAnswered over.like.own facts m t (Stopped over.count) out) (sym over.like.when)
-          (subst (λ (s : Files). IsAnswered over.like.own facts (moment_of over.like.own over.clock) s (Stopped over.count) out) same.1
-          (subst (λ (f : Values). IsAnswered over.like.own f (moment_of over.like.own over.clock) stopped_run.tree (Stopped over.count) out) same.0 stopped_run.answered))
+          (subst (λ (s : Files). IsAnswered over.like.own facts (moment_of over.like.own over.clock_micros) s (Stopped over.count) out) same.1
+          (subst (λ (f : Values). IsAnswered over.like.own f (moment_of over.like.own over.clock_micros) stopped_run.tree (Stopped over.count) out) same.0 stopped_run.answered))
 
       has_stopped : (v : Files) × (IsImage out facts v × HasStopped (unlimited options) facts moment t v)
       has_stopped = (
@@ -236,21 +236,21 @@ module _ (options : Options) where
     ended_image out over =
         subst (λ (v : Files). IsImage out facts v) (left_by options over.like.own over.like.alike facts moment t over.end here.messages here.left here.run) here.again
       where
-        run_of : (e : RunEnd) → IsAnswer over.like.own over.clock input (outcome_of e) out → IsRun over.like.own over.clock input (outcome_of e) out
+        run_of : (e : RunEnd) → IsAnswer over.like.own over.clock_micros input (outcome_of e) out → IsRun over.like.own over.clock_micros input (outcome_of e) out
         run_of end.Done h = h
         run_of end.ConfigInvalid h = h
         run_of end.NotCarriedOut h = h
         run_of (end.NoFreeId name) h = h
 
-        run : IsRun over.like.own over.clock input (outcome_of over.end) out
-        run = run_of over.end (subst (λ (o : Option Invocation). HasOutputBy o over.clock input (outcome_of over.end) out) over.like.meaning over.output.1)
+        run : IsRun over.like.own over.clock_micros input (outcome_of over.end) out
+        run = run_of over.end (subst (λ (o : Option Invocation). HasOutputBy o over.clock_micros input (outcome_of over.end) out) over.like.meaning over.output.1)
 
         here : IsAnswered over.like.own facts moment t (outcome_of over.end) out
         here =
             let same = one_image input run.facts facts run.tree t run.image image in
             subst (λ (m : ℕ). IsAnswered over.like.own facts m t (outcome_of over.end) out) (sym over.like.when)
-            (subst (λ (s : Files). IsAnswered over.like.own facts (moment_of over.like.own over.clock) s (outcome_of over.end) out) same.1
-            (subst (λ (f : Values). IsAnswered over.like.own f (moment_of over.like.own over.clock) run.tree (outcome_of over.end) out) same.0 run.answered))
+            (subst (λ (s : Files). IsAnswered over.like.own facts (moment_of over.like.own over.clock_micros) s (outcome_of over.end) out) same.1
+            (subst (λ (f : Values). IsAnswered over.like.own f (moment_of over.like.own over.clock_micros) run.tree (outcome_of over.end) out) same.0 run.answered))
 
   have_stopped : (moments : List ℕ) (input last : List ℕ) (facts : Values) (t : Files) → IsImage input facts t → HaveStoppedOver options moments input last
       → (u : Files) × (IsImage last facts u × HaveStopped (unlimited options) facts moments t u)

@@ -13,7 +13,7 @@ pub rooted_not_none : (o : Option Rooted) (rooted : Rooted) → o ≡ Some roote
 rooted_not_none o rooted is none = let no : Some rooted ≡ None = sym is ∙ none in cc
 
 -- a run that has run out of memory
-pub of_any : (o : Option Rooted) (clock : ℕ) (host : HostState) (before after : Option (List ℕ)) → Appends before after []
-    → IfSome o (λ rooted. HasWrittenOn (spelled rooted.folder) rooted.options clock host host Memory before after)
-of_any (Some rooted) clock host before after none = folder_nothing (spelled rooted.folder) rooted.options clock host host before after (before_steps refl refl) none
-of_any None clock host before after none = tt
+pub of_any : (o : Option Rooted) (clock_micros : ℕ) (host : HostState) (before after : Option (List ℕ)) → Appends before after []
+    → IfSome o (λ rooted. HasWrittenOn (spelled rooted.folder) rooted.options clock_micros host host Memory before after)
+of_any (Some rooted) clock_micros host before after none = folder_nothing (spelled rooted.folder) rooted.options clock_micros host host before after (before_steps refl refl) none
+of_any None clock_micros host before after none = tt

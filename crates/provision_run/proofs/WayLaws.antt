@@ -7,8 +7,7 @@ use Rattle.std.proofs.Math.Seq.{drop-length, take-nil}
 use Rattle.std.specs.List.{AllByRecursion}
 use Rattle.pv_create.proofs.StepLaws.{given}
 use Rattle.pv_create.proofs.StoppedLaws.{between}
-use Rattle.pv_create.specs.OnTheWay.{IsGiven}
-use Rattle.pv_create.specs.Ways.{lines_course}
+use Rattle.pv_create.specs.OnTheWay.{IsGiven, lines_course}
 use Rattle.pv_steps.specs.Courses.{Course, Partway, IsStepOfSome}
 use Rattle.pv_walk.specs.declared.object_state.ObjectState.{ObjectState}
 use Rattle.pv_walk.specs.Edits.{Pruned}

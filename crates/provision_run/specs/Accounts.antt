@@ -1,5 +1,5 @@
--- A complete run of systemd-sysusers(8): the lines that it reads of the tree, what it says, how it ends, and the most steps
--- that it takes. The tree that it leaves, and the account files, are those of pv_sysusers.
+-- A complete run of systemd-sysusers(8): the lines that it reads from the tree, its messages, how it ends, and the
+-- most steps that it takes. The tree that it leaves is defined in pv_sysusers.
 use Rattle.std.specs.Prelude.{◌≡◌, ◌⊎◌, ℕ, ◌+◌, Bool, List, [], ◌∷◌, ◌++◌, codes, Option, Some, None, Result, Ok, Err}
 use Rattle.std.specs.Option.{option_map_or}
 use Rattle.pv_sysusers.specs.declared.edit.Edit.{Edit}
@@ -22,50 +22,53 @@ use Rattle.provision_run.specs.declared.ending.RunEnd.{RunEnd}
 use Rattle.provision_run.specs.declared.ending.RunEnd.TheVariants.{NoFreeId}
 use Rattle.provision_run.specs.Ending.{end_of, is_uncarried}
 
--- the lines of the configuration
+-- The lines of the configuration.
 abbrev pub run_requests : Options → Values → Files → List Request
 run_requests options facts t = (requested t facts options.words).lines
 
--- what is said in reading them
+-- The messages about reading them.
 abbrev pub requests_messages : Options → Values → Files → List (List ℕ)
 requests_messages options facts t = (requested t facts options.words).messages
 
--- the new texts of account files
+-- The account files that get new texts.
 abbrev pub run_edits : Options → Values → ℕ → Files → List Edit
 run_edits options facts moment t = edits_at (run_requests options facts t) moment (places t)
 
--- the name for which no number is left
+-- The name for which no number is left, if there is one.
 abbrev pub run_lacking : Options → Values → ℕ → Files → Option (List ℕ)
 run_lacking options facts moment t = lacking_at (run_requests options facts t) moment (places t)
 
--- what is said where no number is left for a name
+-- The message that no number is left for a name.
 abbrev pub lacking_text : List ℕ → List ℕ
 lacking_text name = codes "no free id for " ++ printed name
 
--- what is said of the lines and of the account files
+-- The messages about the lines and the account files.
 abbrev pub account_messages : Options → Values → ℕ → Files → List (List ℕ)
 account_messages options facts moment t =
     accounts_messages (run_requests options facts t) moment (places t)
     ++ option_map_or (λ name. lacking_text name ∷ []) (run_lacking options facts moment t) []
 
--- how it ends: no number was left for a name, or else by what was carried out and read
+-- How the run ends. If no number is left for a name, it is NoFreeId. Otherwise it depends on what was carried out and
+-- read.
 abbrev pub accounts_end_by : Option (List ℕ) → Bool → Bool → RunEnd
 accounts_end_by (Some name) uncarried invalid = NoFreeId name
 accounts_end_by None uncarried invalid = end_of uncarried invalid
 
+-- How a complete run ends.
 abbrev pub accounts_end : Options → Values → ℕ → Files → RunEnd
 accounts_end options facts moment t =
     accounts_end_by (run_lacking options facts moment t)
     (is_uncarried (carried_of (is_unusable (places t))) (requested t facts options.words).missing)
     (requested t facts options.words).invalid
 
--- the most steps that it takes
+-- The most steps that the run takes.
 abbrev pub accounts_work : Options → Values → ℕ → Files → ℕ
 accounts_work options facts moment t = count_at_all t swept_names + most_put (run_edits options facts moment t) (places t)
 
 -- ---- the end of a run
 
--- how a run has ended by its answer, and what it has said then: that no number is left for a name, unless memory ran out
+-- How a run has ended, by the answer about the accounts, and the messages that it has then given. If no number is
+-- left for a name, there is one more message, unless memory ran out.
 abbrev pub IsEnded : Result Carried AccountsFault → Bool → Bool → Result RunEnd TreeFault → List (List ℕ) → List (List ℕ) → Type 0
 IsEnded (Ok carried) missing invalid r old new = (r ≡ Ok (end_of (is_uncarried carried missing) invalid)) × (new ≡ old)
 IsEnded (Err (fault.NoFreeId name)) missing invalid r old new =

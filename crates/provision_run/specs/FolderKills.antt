@@ -1,6 +1,6 @@
--- A run on a folder that was killed between two changes that it asked of the host, before the new manifest was in its place, and then
--- a complete run (systemd-tmpfiles(8), `--root`).
-use Rattle.std.specs.Prelude.{◌≡◌, ℕ, false, List, take, Some}
+-- A run on a folder that is killed between two changes of the host, before the new manifest is in place, and then a
+-- complete run (systemd-tmpfiles(8), `--root`).
+use Rattle.std.specs.Prelude.{◌≡◌, ℕ, false, List, take}
 use Rattle.std.specs.List.{AllByRecursion}
 use Rattle.pv_folder.specs.Content.{Content, held, spelled}
 use Rattle.pv_folder.specs.Folders.{manifest_path}
@@ -25,35 +25,35 @@ use Rattle.provision_run.specs.OnFolder.{AreAsked}
 use Rattle.provision_run.specs.OverTree.{HasLeft}
 use Rattle.provision_run.specs.Words.{moment_of}
 
--- what a run on a folder has left there that was killed: it was opened with a tree, steps of the run lead on from there, the folder
--- holds the directories and files of the tree after some of them, and its manifest is the old one
-pub record WasKilled (folder : Path) (options : Options) (clock : ℕ) (old new : Content) : Type 0 where
+-- What a killed run has left in a folder. The folder was opened with a tree, and steps of the run lead on from there.
+-- The folder holds the directories and files of the tree after some of these steps. Its manifest is the old one.
+pub record WasKilled (folder : Path) (options : Options) (clock_micros : ℕ) (old new : Content) : Type 0 where
   pub facts : Values
   pub tree : Files
   pub opened : IsOpened folder old facts tree
   pub left : Files
-  pub gone : HasLeft options facts (moment_of options clock) tree left
+  pub gone : HasLeft options facts (moment_of options clock_micros) tree left
   pub asked : List Step
-  pub are_asked : AreAsked tree (moment_of options clock) gone.steps asked
+  pub are_asked : AreAsked tree (moment_of options clock_micros) gone.steps asked
   pub text : List ℕ
-  pub between : IsBetween folder tree asked (moment_of options clock) text (held old) (held new)
+  pub between : IsBetween folder tree asked (moment_of options clock_micros) text (held old) (held new)
   pub manifest : held new (manifest_path folder) ≡ held old (manifest_path folder)
 
--- such a run by words that mean these options, except for the limit and the moment
+-- The same for a run whose arguments mean these options. Only `--stop-after` and the time may differ.
 pub record HasKilledOn (options : Options) (folder : Path) (moment : ℕ) (old new : Content) : Type 0 where
   pub words : List (List ℕ)
-  pub clock : ℕ
-  pub like : AreLikeOn options folder words clock moment
-  pub killed : WasKilled (spelled like.own.folder) like.own.options clock old new
+  pub clock_micros : ℕ
+  pub like : AreLikeOn options folder words clock_micros moment
+  pub killed : WasKilled (spelled like.own.folder) like.own.options clock_micros old new
 
--- the tree with which the folder is opened then, the old manifest merged with what is real, is the tree after some of the steps, at each
--- path, timestamps aside: the manifest says of each object what the steps have left of it, as far as the host does not have it
+-- The folder is opened again: the old manifest is merged with the real directories and files. The result is the tree
+-- after some steps of the killed run, at each path, timestamps aside.
 abbrev pub IsMergedBack : (options : Options) (folder : Path) (moment : ℕ) (old new : Content) → HasKilledOn options folder moment old new → Files → Type 0
 IsMergedBack options folder moment old new cut v =
-    (n : ℕ) × SameObjectStates v (after_all cut.killed.tree (take n cut.killed.gone.steps) (moment_of cut.like.own.options cut.clock))
+    (n : ℕ) × SameObjectStates v (after_all cut.killed.tree (take n cut.killed.gone.steps) (moment_of cut.like.own.options cut.clock_micros))
 
--- lines that copy nothing say all that a kill may have lost: at each path without a staging name their operations, in the order of
--- creating, make of what stands in the second tree what they make of what stood in the first
+-- Lines that copy nothing determine everything that a kill may lose. At each path without a staging name, their
+-- operations in the order of creating give the same result on both trees.
 pub record SayAll (lines : List Line) (t v : Files) : Type 0 where
   pub are_lines : AllByRecursion IsLine lines
   pub copy_nothing : AllByRecursion CopiesNothing lines

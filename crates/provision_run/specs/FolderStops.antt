@@ -1,5 +1,5 @@
--- Runs on a folder that were broken off, one or more, each on what the last one left there, and then a complete run: the folder then
--- holds what one complete run leaves (systemd-tmpfiles(8), systemd-sysusers(8), `--root`).
+-- Runs on a folder that were cut short, one or more, each on what the last one left there, and then a complete run.
+-- The folder then holds what one complete run leaves (systemd-tmpfiles(8), systemd-sysusers(8), `--root`).
 use Rattle.std.specs.Prelude.{◌≡◌, ℕ, List, ◌∷◌, [], Some}
 use Rattle.pv_folder.specs.Opening.{IsOpened}
 use Rattle.pv_folder.specs.Content.{Content, held, spelled}
@@ -16,50 +16,53 @@ use Rattle.provision_run.specs.OverTree.{HasLeft, outcome_of}
 use Rattle.provision_run.specs.Stops.{IsCalm, unlimited}
 use Rattle.provision_run.specs.Words.{moment_of}
 
--- words that name a folder and mean these options for it, except for the limit and the moment, and the moment of a run by them
-pub record AreLikeOn (options : Options) (folder : Path) (words : List (List ℕ)) (clock moment : ℕ) : Type 0 where
+-- Arguments that name this folder and mean these options for it, and the time of a run with them. Only `--stop-after`
+-- and the time may differ from the options.
+pub record AreLikeOn (options : Options) (folder : Path) (words : List (List ℕ)) (clock_micros moment : ℕ) : Type 0 where
   pub own : Rooted
   pub meaning : rooted_of words ≡ Some own
   pub named : spelled own.folder ≡ folder
   pub alike : unlimited own.options ≡ unlimited options
-  pub when : moment ≡ moment_of own.options clock
+  pub when : moment ≡ moment_of own.options clock_micros
 
--- a run on a folder of a host that tells what it holds was broken off, and what it has left is kept there: it was stopped at its
--- limit, a step of it failed on the host, or memory ran out
-pub data WasBrokenOff (folder : Path) (options : Options) (clock : ℕ) (old new : Content) : Type 0 where
-  stopped : (count : ℕ) (messages : List (List ℕ)) → IsRunOn folder options clock (Some old) (Some new) (Stopped count) messages
-      → WasBrokenOff folder options clock old new
-  failed : (messages : List (List ℕ)) → IsCutOn folder options clock (Some old) (Some new) messages → WasBrokenOff folder options clock old new
-  short : (facts : Values) (tree left : Files) → IsOpened folder old facts tree → HasLeft options facts (moment_of options clock) tree left
-      → IsKept folder facts left (held old) (held new) → WasBrokenOff folder options clock old new
+-- A run on a folder of a host that tells its content was cut short, and the folder keeps the tree that the run has
+-- left. It was stopped at its limit, a step failed on the host, or memory ran out.
+pub data WasBrokenOff (folder : Path) (options : Options) (clock_micros : ℕ) (old new : Content) : Type 0 where
+  stopped : (count : ℕ) (messages : List (List ℕ)) → IsRunOn folder options clock_micros (Some old) (Some new) (Stopped count) messages
+      → WasBrokenOff folder options clock_micros old new
+  failed : (messages : List (List ℕ)) → IsCutOn folder options clock_micros (Some old) (Some new) messages → WasBrokenOff folder options clock_micros old new
+  short : (facts : Values) (tree left : Files) → IsOpened folder old facts tree → HasLeft options facts (moment_of options clock_micros) tree left
+      → IsKept folder facts left (held old) (held new) → WasBrokenOff folder options clock_micros old new
 
--- such a run by such words
+-- Such a run with such arguments.
 pub record HasStoppedOn (options : Options) (folder : Path) (moment : ℕ) (old new : Content) : Type 0 where
   pub words : List (List ℕ)
-  pub clock : ℕ
-  pub like : AreLikeOn options folder words clock moment
-  pub broken : WasBrokenOff (spelled like.own.folder) like.own.options clock old new
+  pub clock_micros : ℕ
+  pub like : AreLikeOn options folder words clock_micros moment
+  pub broken : WasBrokenOff (spelled like.own.folder) like.own.options clock_micros old new
 
--- the tree that a folder is opened with is calm
+-- Each tree with which the folder can be opened is calm: `IsCalm` holds of it.
 abbrev pub IsCalmOn : Options → Path → Content → Type 0
 IsCalmOn options folder content = (facts : Values) (t : Files) → IsOpened folder content facts t → IsCalm options facts t
 
--- runs at some moments were broken off so, each on what the last one left in the folder
+-- Runs at some times were cut short in this way, each on what the last one left in the folder. The folder was calm
+-- each time.
 abbrev pub HaveStoppedOn : Options → Path → List ℕ → Content → Content → Type 0
 HaveStoppedOn options folder [] old last = last ≡ old
 HaveStoppedOn options folder (moment ∷ moments) old last =
     IsCalmOn options folder old × ((next : Content) × (HasStoppedOn options folder moment old next × HaveStoppedOn options folder moments next last))
 
--- a run on a folder by such words was not stopped
+-- A run on a folder with such arguments was complete.
 pub record HasEndedOn (options : Options) (folder : Path) (moment : ℕ) (old new : Content) : Type 0 where
   pub words : List (List ℕ)
-  pub clock : ℕ
-  pub like : AreLikeOn options folder words clock moment
+  pub clock_micros : ℕ
+  pub like : AreLikeOn options folder words clock_micros moment
   pub end : RunEnd
   pub messages : List (List ℕ)
-  pub run : IsRunOn (spelled like.own.folder) like.own.options clock (Some old) (Some new) (outcome_of end) messages
+  pub run : IsRunOn (spelled like.own.folder) like.own.options clock_micros (Some old) (Some new) (outcome_of end) messages
 
--- in the place of one content, two hold in the folder the same facts, and trees of which something holds
+-- Two contents of the host, each compared with the same old content, keep in the folder the same facts, and two trees
+-- of which something holds.
 pub record AreFolders (Holds : Files → Files → Type 0) (folder : Path) (old one two : Content) : Type 0 where
   pub facts : Values
   pub tree : Files

@@ -1,7 +1,8 @@
--- What a run leaves as it was at each moment, whatever it answers (systemd-tmpfiles(8), systemd-sysusers(8)).
+-- What a run leaves as it was, after any number of its steps and whatever it answers (systemd-tmpfiles(8),
+-- systemd-sysusers(8)).
 use Rattle.std.specs.Prelude.{◌≡◌, ℕ, false, List, [], take}
 use Rattle.pv_sysusers.specs.FileWriting.{account_paths}
-use Rattle.pv_sysusers.specs.Edits.{etc}
+use Rattle.pv_layers.specs.Places.{etc}
 use Rattle.pv_create.specs.OnTheWay.{IsFramed}
 use Rattle.pv_walk.specs.Nodes.{object_states_of}
 use Rattle.pv_path.specs.Paths.{Path, has_staging, same_path}
@@ -15,14 +16,14 @@ use Rattle.provision_run.specs.declared.task.Task.{Task}
 use Rattle.provision_run.specs.declared.task.Task.TheVariants.{Phases, Report, Explain, Accounts}
 use Rattle.provision_run.specs.Phased.{run_lines}
 
--- a run that makes accounts, stopped after any of these steps, has left each path as it was but /etc and the account files;
--- timestamps and staging names aside
+-- After any number of steps of systemd-sysusers, each path is as it was, timestamps aside. This does not hold of
+-- `/etc`, the account files and staging names.
 abbrev pub AreAccountsFramed : ℕ → Files → List Step → Type 0
 AreAccountsFramed moment t steps = (n : ℕ) (q : Path) → has_staging q ≡ false → same_path etc q ≡ false → is_one_of account_paths q ≡ false →
     object_states_of (places (after_all t (take n steps) moment)) q ≡ object_states_of (places t) q
 
--- by the task: a run of phases, whatever these are, has left each path that no active line governs; a report and an explanation do no
--- step
+-- The same by the task. Phases, whichever they are, leave each path as it was that no active line governs. A report
+-- and an explanation do no step.
 unfoldable pub IsFramedIn : Task → Options → Values → ℕ → Files → List Step → Type 0
 IsFramedIn Phases options facts moment t steps = IsFramed (run_lines options facts t) moment t steps
 IsFramedIn Report options facts moment t steps = steps ≡ []

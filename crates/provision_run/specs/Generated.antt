@@ -1,4 +1,4 @@
--- A run of systemd-tmpfiles(8) over a generated tree, of which three messages tell (this project's own).
+-- A run of systemd-tmpfiles(8) over a generated tree, with its three messages (this project's own).
 use Rattle.std.specs.Prelude.{◌≡◌, ◌↔◌, ℕ, true, false, List, [], ◌∷◌, ◌++◌, codes, length, None}
 use Rattle.std.specs.FinMap as fin
 use Rattle.std.specs.Fmt.{decimal}
@@ -18,7 +18,7 @@ use Rattle.provision_run.specs.Whole.{final, AreMessages, read_messages}
 
 -- ---- the run
 
--- `--create` alone
+-- The options of `--create` alone.
 abbrev pub create_alone : Options
 create_alone = record {
   tool = Tmpfiles;
@@ -36,24 +36,25 @@ create_alone = record {
   words = [];
 }
 
--- of a generated tree no facts are known
+-- A generated tree has no facts.
 abbrev pub no_facts : Values
 no_facts = fin.empty
 
--- the moment of the run, in microseconds since 1970
+-- The time of the run, in microseconds since 1970.
 abbrev pub generated_moment : ℕ
 generated_moment = 1000000000000
 
--- the tree that the run leaves
+-- The tree that the run leaves.
 abbrev pub created : Files → Files
 created t = final create_alone no_facts generated_moment t
 
--- the lines of the configuration of a tree
+-- The lines of the configuration of a tree.
 abbrev pub lines_in : Files → List Line
 lines_in t = (configured t no_facts []).lines
 
 -- ---- the messages
 
+-- The texts of the three messages.
 abbrev pub generated_text : ℕ → ℕ → List ℕ
 generated_text lines nodes = codes "generated " ++ decimal lines ++ codes " lines " ++ decimal nodes ++ codes " nodes"
 
@@ -63,9 +64,10 @@ created_text nodes messages = codes "created " ++ decimal nodes ++ codes " nodes
 abbrev pub overlaps_text : ℕ → List ℕ → List ℕ
 overlaps_text pairs last = decimal pairs ++ codes " overlaps, " ++ last
 
--- what is written of a tree with so many lines: its nodes; the nodes that the run leaves, and how many messages it has; how
--- many pairs of lines overlap, and the verdict on the lines, which is `repeatable` exactly if no line has a hazard
-pub record IsToldOf (lines : ℕ) (t : Files) (out : List ℕ) : Type 0 where
+-- The three messages about a tree with this number of lines. The first gives the number of objects of the tree. The
+-- second gives how many the run leaves, and how many messages it has. The third gives how many pairs of lines
+-- overlap, and the verdict, which is `repeatable` exactly if no line has a hazard.
+pub record IsGeneratedOutput (lines : ℕ) (t : Files) (out : List ℕ) : Type 0 where
   pub new_messages : List (List ℕ)
   pub is_said : AreMessages create_alone no_facts generated_moment t new_messages
   pub report : Report
@@ -78,6 +80,6 @@ pub record IsToldOf (lines : ℕ) (t : Files) (out : List ℕ) : Type 0 where
       ∷ overlaps_text (length report.pairs) (verdict report.unrepeatable)
       ∷ [])
 
--- what is written for a seed and a number of lines
+-- The output for this seed and this number of lines.
 unfoldable pub IsGenerated : ℕ → ℕ → List ℕ → Type 0
-IsGenerated seed count out = IsToldOf count (generated seed count) out
+IsGenerated seed count out = IsGeneratedOutput count (generated seed count) out

@@ -4,8 +4,8 @@ use Rattle.std.proofs.Common.{refl, arith, ap, subst, ◌∙◌}
 use Rattle.pv_io.specs.Faults.{fault_after}
 use Rattle.pv_steps.specs.Counting.{faults_after}
 
--- over some calls the count of faults of a tree went from `old` to `new`, and that of the lent one from `before` to `after`:
--- both have counted as many
+-- Over some calls the count of faults of a tree went from `old` to `new`, and that of the lent tree from `before` to
+-- `after`. Both have counted the same number of faults.
 pub record HaveCounted (old new before after : ℕ) : Type 0 where
   pub times : ℕ
   pub there : new ≡ faults_after times old
@@ -18,12 +18,12 @@ same_name a = λ i. a
 pub one_name : {X : Type 0} → (a b c : X) → b ≡ a → c ≡ b → c ≡ a
 one_name a b c p q = subst (λ x. c ≡ x) p q
 
--- so many faults more, and then so many
+-- Some more faults, and then some more.
 faults_on : (more k n : ℕ) → faults_after more (faults_after k n) ≡ faults_after (more + k) n
 faults_on zero k n = ap (λ m. faults_after m n) (let same : k ≡ 0 + k = omega arith in same)
 faults_on (suc more) k n = ap fault_after (faults_on more k n) ∙ ap (λ m. faults_after m n) (let same : suc (more + k) ≡ suc more + k = omega arith in same)
 
--- over no call, and over one run of calls after another
+-- Over no call, and over some calls after others.
 pub counted_none : (old before : ℕ) → HaveCounted old old before before
 counted_none old before = record { times = 0; there = refl; here = refl; rises = omega arith }
 

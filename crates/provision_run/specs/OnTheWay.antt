@@ -1,4 +1,5 @@
--- What a run has left at each moment and what each of its steps gives, by what its options ask for (systemd-tmpfiles(8)).
+-- What a run has left after any number of its steps, and what each of its steps gives, by what its options ask for
+-- (systemd-tmpfiles(8)).
 use Rattle.std.specs.Prelude.{ℕ, List, ⊤}
 use Rattle.provision_run.specs.PhasesOnTheWay.{GiveBy, IsBetweenBy}
 use Rattle.provision_run.specs.Phases.{phases_of}
@@ -10,9 +11,8 @@ use Rattle.provision_run.specs.declared.task.Task.{Task}
 use Rattle.provision_run.specs.declared.task.Task.TheVariants.{Phases, Report, Explain, Accounts}
 use Rattle.provision_run.specs.Phased.{run_lines}
 
--- by the task: phases, by the active lines, where their premises hold: each path is as after some lines or after one more,
--- and each step gives its node the object at one path after some of them. A report and an explanation do no step; the way of a run that makes
--- accounts says which texts are new
+-- By the task. For phases, each path is as `IsBetweenBy` says, and each step as `GiveBy` says. A report and an
+-- explanation do no step. For systemd-sysusers, `AccountWay` says which texts are new.
 unfoldable pub IsOnTheWayIn : Task → Options → Values → ℕ → Files → List Step → Type 0
 IsOnTheWayIn Phases options facts moment t steps =
     IsBetweenBy (phases_of options) (run_lines options facts t) moment t steps × GiveBy (phases_of options) (run_lines options facts t) moment t steps

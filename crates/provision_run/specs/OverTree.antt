@@ -1,5 +1,5 @@
--- A run over a tree, whatever holds it: how it ended, what it has said, and the tree that it has left (systemd-tmpfiles(8),
--- systemd-sysusers(8)).
+-- A run over a tree, whether it comes from an image or a folder: how it ended, its messages, and the tree that it has
+-- left (systemd-tmpfiles(8), systemd-sysusers(8)).
 use Rattle.std.specs.Prelude.{◌≡◌, ℕ, ◌<◌, ◌≤◌, List, [], ◌∷◌, ◌++◌, length, take, codes, Some, IfSome}
 use Rattle.std.specs.Fmt.{decimal}
 use Rattle.std.specs.List.{AllByRecursion}
@@ -20,9 +20,14 @@ use Rattle.provision_run.specs.Whole.{run_way, final, RecoversAnewIn, RecoversIn
 
 -- ---- any run
 
--- a run has left a tree, whatever it answered: legal steps, each one that the lines ask for, lead there; if it has one phase,
--- is the boot command or makes accounts, crash safety of it holds, also where the lines are read anew of that tree; whatever it
--- does, its frame holds; and creating, alone or in the boot command, is on its way, and its steps give what lines leave
+-- A run has left a tree, whatever it answered. What holds of its steps:
+-- - way, asked, reached: The steps lead to this tree. Each one can be done, has an effect, and is one that the lines
+--   ask for. The trees between them are intermediate states of the run.
+-- - recovers: For one phase, the boot command or systemd-sysusers, a complete run after a stop recovers.
+-- - anew: The same if the complete run reads its lines from the tree at the stop.
+-- - framed: What the run has no reason to change is as it was (`IsFramedIn`).
+-- - between: For creating and the boot command, what is at each path, and what each step gives, is as the lines leave
+--   it (`IsOnTheWayIn`).
 pub record HasLeft (options : Options) (facts : Values) (moment : ℕ) (t left : Files) : Type 0 where
   pub steps : List Step
   pub way : Along (run_way options facts moment t) t steps moment
@@ -35,19 +40,19 @@ pub record HasLeft (options : Options) (facts : Values) (moment : ℕ) (t left :
 
 -- ---- complete runs
 
--- the outcome of a run that was not stopped
+-- The outcome of a complete run, by how it ended.
 abbrev pub outcome_of : RunEnd → Outcome
 outcome_of end.Done = Done
 outcome_of end.ConfigInvalid = ConfigInvalid
 outcome_of end.NotCarriedOut = NotCarriedOut
 outcome_of (end.NoFreeId name) = NoFreeId name
 
+-- The outcome of a complete run over a tree.
 abbrev pub outcome : Options → Values → ℕ → Files → Outcome
 outcome options facts moment t = outcome_of (run_end options facts moment t)
 
--- a run that was not stopped: how it ended, what is said in reading and what is said then, and the tree of a complete run, by
--- steps that are each done at their turn, no more than the limit where one was given; nothing is left there at the staging
--- names of what it made
+-- A complete run. It has the outcome, the messages and the tree that the definitions give. Its steps are done in
+-- order, no more than the limit if there is one. At the staging names of what it made nothing is left.
 pub record IsWhole (options : Options) (facts : Values) (moment : ℕ) (t : Files) (found : Outcome) (messages : List (List ℕ)) (left : Files) : Type 0 where
   pub end : found ≡ outcome options facts moment t
   pub new_messages : List (List ℕ)
@@ -61,26 +66,26 @@ pub record IsWhole (options : Options) (facts : Values) (moment : ℕ) (t : File
 
 -- ---- runs of which a step was refused
 
--- a prefix of what a complete run says after reading
-abbrev pub IsFront : Options → Values → ℕ → Files → List (List ℕ) → Type 0
-IsFront options facts moment t new_messages = (whole : List (List ℕ)) × (AreMessages options facts moment t whole × ((k : ℕ) × (new_messages ≡ take k whole)))
+-- A prefix of the messages that a complete run gives after reading.
+abbrev pub IsPrefixOfMessages : Options → Values → ℕ → Files → List (List ℕ) → Type 0
+IsPrefixOfMessages options facts moment t new_messages = (whole : List (List ℕ)) × (AreMessages options facts moment t whole × ((k : ℕ) × (new_messages ≡ take k whole)))
 
--- a run of which a step was refused, after fewer than the most that it takes: the first of what is said after reading, and the
--- tree after the steps that were done. Steps and messages are those of one choice: the phases and the lines before the one at
--- work have done and said all, and those after it nothing. The steps of the one at work and the refused step are together no
--- more than a complete run of it takes
+-- A run of which a step was refused: at its limit, or because the step failed. It has done fewer steps than the most
+-- that a run may take. Its messages after reading are a prefix of those of a complete run. The tree is that after the
+-- steps that were done. The phases and lines before the one at work have done and said all, and those after it
+-- nothing. With the refused step, the one at work takes no more steps than a complete run of it may take.
 pub record IsCut (options : Options) (facts : Values) (moment : ℕ) (t : Files) (new_messages : List (List ℕ)) (left : Files) : Type 0 where
   pub gone : HasLeft options facts moment t left
   pub fewer : length gone.steps < run_work options facts moment t
-  pub front : IsFront options facts moment t new_messages
+  pub prefix : IsPrefixOfMessages options facts moment t new_messages
   pub at_work : IsCutBy (task_of options) options facts moment 1 t gone.steps new_messages
 
--- what is said of a run that was stopped after n steps
+-- The message about a run that was stopped after n steps.
 abbrev pub stopped_text : ℕ → List ℕ
 stopped_text n = codes "stopped after " ++ decimal n ++ codes " steps"
 
--- a run that was stopped at its limit, after n steps: what is said in reading, the first of what is said then, and that it was
--- stopped
+-- A run that was stopped at its limit, after n steps. Its messages are those about reading, a prefix of the others,
+-- and that it was stopped.
 pub record IsStopped (options : Options) (facts : Values) (moment : ℕ) (t : Files) (n : ℕ) (messages : List (List ℕ)) (left : Files) : Type 0 where
   pub limit : options.stop_after ≡ Some n
   pub new_messages : List (List ℕ)
@@ -90,19 +95,19 @@ pub record IsStopped (options : Options) (facts : Values) (moment : ℕ) (t : Fi
 
 -- ---- by the outcome
 
--- how a run ended, all that it has said, and the tree that it has left
+-- How a run ended, all its messages, and the tree that it has left. It was stopped at its limit, or it was complete.
 abbrev pub HasRun : Options → Values → ℕ → Files → Outcome → List (List ℕ) → Files → Type 0
 HasRun options facts moment t (Stopped n) messages left = IsStopped options facts moment t n messages left
 HasRun options facts moment t found messages left = IsWhole options facts moment t found messages left
 
--- what a run has said of which a step failed, and the tree that it has left
+-- The messages of a run of which a step failed, and the tree that it has left.
 abbrev pub HasFailed : Options → Values → ℕ → Files → List (List ℕ) → Files → Type 0
 HasFailed options facts moment t messages left =
     (new_messages : List (List ℕ)) × ((messages ≡ read_messages options facts t ++ new_messages) × IsCut options facts moment t new_messages left)
 
 -- ---- the steps that were done
 
--- what a run has left that ended so: by which steps
+-- The steps of a run that ended with this outcome.
 abbrev pub gone_of : (options : Options) (facts : Values) (moment : ℕ) (t : Files) (found : Outcome) (messages : List (List ℕ)) (left : Files)
     → HasRun options facts moment t found messages left → HasLeft options facts moment t left
 gone_of options facts moment t Done messages left run = run.gone
@@ -118,22 +123,22 @@ gone_of options facts moment t (Stopped n) messages left run = run.cut.gone
 gone_of options facts moment t (BadFolder f) messages left run = run.gone
 gone_of options facts moment t FolderFailed messages left run = run.gone
 
--- and one of which a step failed
+-- The steps of a run of which a step failed.
 abbrev pub gone_before : (options : Options) (facts : Values) (moment : ℕ) (t : Files) (messages : List (List ℕ)) (left : Files)
     → HasFailed options facts moment t messages left → HasLeft options facts moment t left
 gone_before options facts moment t messages left failed = failed.1.1.gone
 
--- a run has ended so by exactly these steps
+-- A run that ended with this outcome and did exactly these steps.
 pub record HasRunBy (options : Options) (facts : Values) (moment : ℕ) (t : Files) (found : Outcome) (messages : List (List ℕ)) (left : Files) (steps : List Step) : Type 0 where
   pub run : HasRun options facts moment t found messages left
   pub by : (gone_of options facts moment t found messages left run).steps ≡ steps
 
--- one of which a step failed
+-- A run of which a step failed, and which did exactly these steps.
 pub record HasFailedBy (options : Options) (facts : Values) (moment : ℕ) (t : Files) (messages : List (List ℕ)) (left : Files) (steps : List Step) : Type 0 where
   pub run : HasFailed options facts moment t messages left
   pub by : (gone_before options facts moment t messages left run).steps ≡ steps
 
--- and any
+-- Any run that did exactly these steps.
 pub record HasLeftBy (options : Options) (facts : Values) (moment : ℕ) (t left : Files) (steps : List Step) : Type 0 where
   pub gone : HasLeft options facts moment t left
   pub by : gone.steps ≡ steps

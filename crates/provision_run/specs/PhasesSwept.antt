@@ -1,4 +1,4 @@
--- What phases one after the other leave at staging names (systemd-tmpfiles(8)).
+-- What phases leave at staging names (systemd-tmpfiles(8)).
 use Rattle.std.specs.Prelude.{ℕ, List, [], ◌∷◌, ⊤}
 use Rattle.pv_laws.specs.Swept.{LeavesNoStagingName}
 use Rattle.pv_lines.specs.declared.line.Line.{Line}
@@ -7,8 +7,8 @@ use Rattle.provision_run.specs.Phases.{left_by}
 use Rattle.provision_run.specs.declared.phase.Phase.{Phase}
 use Rattle.provision_run.specs.declared.phase.Phase.TheVariants.{Create}
 
--- where creating is the last of some phases, nothing is left at the staging names of what it made; it began with the tree
--- that the phases before it leave. The other phases make nothing
+-- If creating is the last phase, nothing is left at the staging names of what it made. It begins with the tree that
+-- the phases before it leave. The other phases make nothing.
 abbrev pub IsSweptBy : List Phase → List Line → ℕ → Files → Files → Type 0
 IsSweptBy [] lines now t u = ⊤
 IsSweptBy (Create ∷ []) lines now t u = LeavesNoStagingName lines now t u

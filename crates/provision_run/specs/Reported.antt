@@ -1,5 +1,5 @@
--- A report on the lines of a configuration, which does no step (this project's own). It tells of all lines that were read,
--- whatever the filters of the options.
+-- A report on the lines of a configuration (`--report`), which does no step (this project's own). It considers all
+-- lines that were read, whatever the filters are.
 use Rattle.std.specs.Prelude.{◌≡◌, ◌↔◌, ◌⊎◌, ℕ, List, ◌++◌}
 use Rattle.pv_read_config.specs.Known.{configured}
 use Rattle.pv_lines.specs.declared.line.Line.{Line}
@@ -14,8 +14,8 @@ use Rattle.pv_words.specs.declared.options.Options.{Options}
 use Rattle.provision_run.specs.declared.ending.RunEnd.{RunEnd}
 use Rattle.provision_run.specs.Ending.{end_of}
 
--- what is said in a report of lines: exactly their overlaps and their reasons against repeating, and last the verdict, which
--- is `repeatable` exactly if no line has a hazard
+-- The messages of a report on lines. They are exactly the overlaps and the hazards, and then the verdict, which is
+-- `repeatable` exactly if no line has a hazard.
 pub record IsReportOf (lines : List Line) (new_messages : List (List ℕ)) : Type 0 where
   pub report : Report
   pub overlaps : ListsOverlaps lines report.pairs
@@ -23,17 +23,17 @@ pub record IsReportOf (lines : List Line) (new_messages : List (List ℕ)) : Typ
   pub text : new_messages ≡ report_messages lines report
   pub verdict : SaysRepeatable new_messages ↔ IsRepeatable lines
 
--- what is said in reading the configuration and in a report of its lines, after messages that were there before
+-- The messages about the configuration and those of the report are added to earlier messages.
 abbrev pub HasReported : Options → Values → Files → List (List ℕ) → List (List ℕ) → Type 0
 HasReported options facts t old new =
     (new_messages : List (List ℕ)) × (IsReportOf (configured t facts options.words).lines new_messages × (new ≡ old ++ (configured t facts options.words).messages ++ new_messages))
 
--- a prefix of what is said in reading, or of all of it
+-- A prefix of the messages about the configuration, or of all messages, is added to earlier messages.
 abbrev pub HasReportedPart : Options → Values → Files → List (List ℕ) → List (List ℕ) → Type 0
 HasReportedPart options facts t old new =
     MessagesPart (configured t facts options.words).messages old new
     ⊎ ((new_messages : List (List ℕ)) × (IsReportOf (configured t facts options.words).lines new_messages × MessagesPart ((configured t facts options.words).messages ++ new_messages) old new))
 
--- how it ends
+-- How a report ends.
 abbrev pub report_end : Options → Values → Files → RunEnd
 report_end options facts t = end_of (configured t facts options.words).missing (configured t facts options.words).invalid

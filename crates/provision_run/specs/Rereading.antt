@@ -1,4 +1,5 @@
--- The stop laws of a run that reads its lines anew of the tree that a stopped run has left (tmpfiles.d(5), sysusers.d(5)).
+-- Crash safety if the complete run reads its lines again, from the tree that the stopped run has left (tmpfiles.d(5),
+-- sysusers.d(5)).
 use Rattle.std.specs.Prelude.{◌≡◌, ℕ, false, List, [], ◌∷◌, take, ⊤}
 use Rattle.std.specs.List.{AllByRecursion}
 use Rattle.pv_sysusers.specs.Accounted.{accounted}
@@ -18,7 +19,7 @@ use Rattle.pv_steps.specs.Runs.{after_all}
 use Rattle.pv_steps.specs.Same.{Same}
 use Rattle.pv_steps.specs.Trees.{Files}
 use Rattle.pv_table.specs.declared.reason.Reason.TheVariants as reason
-use Rattle.pv_table.specs.Created.{IsQuiet}
+use Rattle.pv_table.specs.Created.{RefusesNoLine}
 use Rattle.pv_table.specs.Removed.{is_unfinished, removed}
 use Rattle.pv_table.specs.Repeatable.{HasReason, IsRepeatable}
 use Rattle.pv_text.specs.Facts.{Values}
@@ -28,23 +29,27 @@ use Rattle.provision_run.specs.Phased.{phased, run_lines}
 
 -- ---- systemd-tmpfiles
 
--- each file word that begins with a slash spells a path of what lines are read from, or none
+-- Each FILE argument that spells a path spells an input path. An argument that does not begin with a slash spells
+-- none.
 abbrev pub ArePlain : Options → Type 0
 ArePlain options = AllByRecursion (IsPlain is_input) options.words
 
--- no line may change what lines are read from
+-- No line has the hazard `input`.
 abbrev pub LeaveInput : List Line → Type 0
 LeaveInput lines = (i : ℕ) → HasReason lines i reason.Input → ⊥
 
--- a run of phases, stopped after any of these steps, has left a tree of which the same is read: the same lines and messages,
--- the same lines refused, the same file words not found
+-- After any number of steps of a run, the same configuration is read from the tree. This includes the lines, the
+-- messages, whether a line is invalid, and whether a FILE argument is not found. It holds if FILE arguments are
+-- plain, and no line has the hazard `input`.
 abbrev pub IsReread : Options → Values → ℕ → Files → List Step → Type 0
 IsReread options facts moment t steps = (n : ℕ) → ArePlain options → LeaveInput (run_lines options facts t) →
     configured (after_all t (take n steps) moment) facts options.words ≡ configured t facts options.words
 
--- what is asked of the lines, by the phases: in removing and purging that none may change what lines are read from; in creating
--- that none has a hazard against it; in the boot command that none copies either. Of a clean, and of other phases one after the
--- other, no second run is told
+-- What the lines must be like, by the phases:
+-- - Removing or purging: no line has the hazard `input`.
+-- - Creating: no line has a hazard.
+-- - The boot command: no line has a hazard, and none copies.
+-- - Cleaning, and other combinations: nothing is promised.
 abbrev pub MayRepeat : List Phase → List Line → Type 0
 MayRepeat (Remove ∷ []) lines = LeaveInput lines
 MayRepeat (Purge ∷ []) lines = LeaveInput lines
@@ -52,25 +57,28 @@ MayRepeat (Create ∷ []) lines = IsRepeatable lines
 MayRepeat (Remove ∷ Create ∷ []) lines = IsRepeatable lines × AllByRecursion CopiesNothing lines
 MayRepeat phases lines = ⊥
 
--- what is asked of a tree from which a complete run begins: creating refuses no line at a turn, in the boot command over what
--- removing leaves
-abbrev pub IsQuietBy : List Phase → List Line → ℕ → Files → Type 0
-IsQuietBy (Create ∷ []) lines now t = IsQuiet lines now t
-IsQuietBy (Remove ∷ Create ∷ []) lines now t = IsQuiet lines now (removed lines now t)
-IsQuietBy phases lines now t = ⊤
+-- A complete run from a tree refuses no line in creating. In the boot command creating begins with what removing
+-- leaves.
+abbrev pub RefusesNoLineBy : List Phase → List Line → ℕ → Files → Type 0
+RefusesNoLineBy (Create ∷ []) lines now t = RefusesNoLine lines now t
+RefusesNoLineBy (Remove ∷ Create ∷ []) lines now t = RefusesNoLine lines now (removed lines now t)
+RefusesNoLineBy phases lines now t = ⊤
 
--- and of the tree from which a run began that was stopped: in the boot command removing leaves nothing unfinished
+-- In the boot command, a complete removal from a tree leaves nothing unfinished.
 abbrev pub IsFinishedBy : List Phase → List Line → Files → Type 0
 IsFinishedBy (Remove ∷ Create ∷ []) lines t = is_unfinished lines t ≡ false
 IsFinishedBy phases lines t = ⊤
 
--- what is asked of the lines, of the tree from which the stopped run began, and of the one that it left
+-- The premises of crash safety: what the lines must be like, and what must hold of the tree at the start and of the
+-- tree at the stop.
 abbrev pub MayRecover : List Phase → List Line → ℕ → Files → ℕ → Files → Type 0
 MayRecover phases lines moment t later u =
-    MayRepeat phases lines × (IsFinishedBy phases lines t × (IsQuietBy phases lines moment t × IsQuietBy phases lines later u))
+    MayRepeat phases lines × (IsFinishedBy phases lines t × (RefusesNoLineBy phases lines moment t × RefusesNoLineBy phases lines later u))
 
--- a run of phases, stopped after any of these steps: a complete run from there, which reads its lines anew, leaves the tree of one
--- whole run, timestamps and staging names aside, at any moment
+-- A run of phases is stopped after any number n of its steps. Then a complete run over the tree at the stop, which
+-- reads its lines again, leaves the same tree as one complete run from the start. This holds if FILE arguments are
+-- plain and `MayRecover` holds. The runs may begin at different times. `Same` leaves out timestamps and staging
+-- names.
 abbrev pub RecoversAnew : Options → Values → ℕ → Files → List Step → Type 0
 RecoversAnew options facts moment t steps = (n later : ℕ) → ArePlain options →
     MayRecover (phases_of options) (run_lines options facts t) moment t later (after_all t (take n steps) moment) →
@@ -78,19 +86,20 @@ RecoversAnew options facts moment t steps = (n later : ℕ) → ArePlain options
 
 -- ---- systemd-sysusers
 
--- each file word that begins with a slash spells a path in the folders of systemd-sysusers, or none
+-- Each FILE argument that spells a path spells one in the folders of systemd-sysusers. An argument that does not
+-- begin with a slash spells none.
 abbrev pub ArePlainRequests : Options → Type 0
 ArePlainRequests options = AllByRecursion (IsPlain is_request_input) options.words
 
--- a run that makes accounts, stopped after any of these steps, has left a tree of which the same is read: the same lines and
--- messages, the same lines refused, the same file words not found
+-- After any number of steps of systemd-sysusers, the configuration that is read from the tree is the same. This holds
+-- if FILE arguments are plain.
 abbrev pub AreRequestsReread : Options → Values → ℕ → Files → List Step → Type 0
 AreRequestsReread options facts moment t steps = (n : ℕ) → ArePlainRequests options →
     requested (after_all t (take n steps) moment) facts options.words ≡ requested t facts options.words
 
--- a run that makes accounts, stopped after any of these steps: a complete run from there, which reads its lines anew, leaves the
--- texts of /etc/group, /etc/gshadow and /etc/passwd that one complete run leaves, at any moment, and on one day the same tree,
--- timestamps and staging names aside
+-- A run of systemd-sysusers is stopped after any number n of its steps. Then a complete run over the tree at the
+-- stop, which reads its lines again, ends like one complete run from the start, as `EndAlike` says. This holds if
+-- FILE arguments are plain. The runs may begin at different times.
 abbrev pub AccountsRecoverAnew : Options → Values → ℕ → Files → List Step → Type 0
 AccountsRecoverAnew options facts moment t steps = (n later : ℕ) → ArePlainRequests options →
     EndAlike moment later

@@ -6,12 +6,14 @@ use Rattle.pv_words.specs.declared.options.Options.{Options}
 use Rattle.provision_run.specs.declared.task.Task.{Task}
 use Rattle.provision_run.specs.declared.task.Task.TheVariants.{Phases, Report, Explain, Accounts}
 
--- accounts of systemd-sysusers; of systemd-tmpfiles a report or the explanation of a path where it is asked for, otherwise phases
+-- For systemd-sysusers: accounts. For systemd-tmpfiles: a report or an explanation if the options ask for it,
+-- otherwise phases.
 abbrev pub task_by : Tool → Bool → Bool → Task
 task_by Tmpfiles true explain = Report
 task_by Tmpfiles false true = Explain
 task_by Tmpfiles false false = Phases
 task_by Sysusers report explain = Accounts
 
+-- The task that options ask for.
 abbrev pub task_of : Options → Task
 task_of options = task_by options.tool options.report (is_some options.explain)

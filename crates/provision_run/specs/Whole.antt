@@ -1,5 +1,5 @@
--- A complete run over a tree, by what its options ask for: the tree that it leaves, what it says, how it ends, and the most
--- steps that it takes (systemd-tmpfiles(8), systemd-sysusers(8)).
+-- A complete run over a tree, by what its options ask for (systemd-tmpfiles(8), systemd-sysusers(8)). Here are the
+-- tree that it leaves, its messages, how it ends, and the most steps that it takes.
 use Rattle.std.specs.Prelude.{◌≡◌, ◌⊎◌, ℕ, List, [], ◌++◌, ⊤}
 use Rattle.pv_sysusers.specs.Accounted.{accounted}
 use Rattle.pv_sysusers.specs.FileWriting.{AccountWay, IsAccountStep}
@@ -23,64 +23,65 @@ use Rattle.provision_run.specs.Tasks.{task_of}
 
 -- ---- by the task
 
--- the tree that it leaves
+-- The tree that a complete run leaves. A report and an explanation leave it as it was.
 unfoldable pub final_by : Task → Options → Values → ℕ → Files → Files
 final_by Phases options facts moment t = phased options facts moment t
 final_by Report options facts moment t = t
 final_by Explain options facts moment t = t
 final_by Accounts options facts moment t = accounted (run_requests options facts t) moment t
 
--- what is said in reading the configuration, and of its lines before any is carried out
+-- The messages about reading the configuration and about duplicate lines.
 unfoldable pub read_by : Task → Options → Values → Files → List (List ℕ)
 read_by Phases options facts t = lines_messages options facts t
 read_by Report options facts t = (configured t facts options.words).messages
 read_by Explain options facts t = lines_messages options facts t
 read_by Accounts options facts t = requests_messages options facts t
 
--- what is said then
+-- The messages that follow.
 unfoldable pub AreMessagesBy : Task → Options → Values → ℕ → Files → List (List ℕ) → Type 0
 AreMessagesBy Phases options facts moment t new_messages = new_messages ≡ phase_messages options facts moment t
 AreMessagesBy Report options facts moment t new_messages = IsReportOf (configured t facts options.words).lines new_messages
 AreMessagesBy Explain options facts moment t new_messages = IsExplanationOf options facts t new_messages
 AreMessagesBy Accounts options facts moment t new_messages = new_messages ≡ account_messages options facts moment t
 
--- how it ends
+-- How a complete run ends.
 unfoldable pub end_by : Task → Options → Values → ℕ → Files → RunEnd
 end_by Phases options facts moment t = phases_end options facts moment t
 end_by Report options facts moment t = report_end options facts t
 end_by Explain options facts moment t = report_end options facts t
 end_by Accounts options facts moment t = accounts_end options facts moment t
 
--- on the way: some phases are done, the next is at work; the tree is as it was; or the first account files have their new
--- texts
+-- An intermediate state. For phases, some are done, and the next one is at work. For systemd-sysusers, the first
+-- account files have their new texts. A report and an explanation leave the tree as it was.
 unfoldable pub way_by : Task → Options → Values → ℕ → Files → Files → Type 0
 way_by Phases options facts moment t u = phases_way options facts moment t u
 way_by Report options facts moment t u = u ≡ t
 way_by Explain options facts moment t u = u ≡ t
 way_by Accounts options facts moment t u = AccountWay (run_edits options facts moment t) t u
 
--- a step of it
+-- A step of a run.
 unfoldable pub is_step_by : Task → Options → Values → ℕ → Files → Step → Type 0
 is_step_by Phases options facts moment t step = is_phases_step options facts moment t step
 is_step_by Report options facts moment t step = ⊥
 is_step_by Explain options facts moment t step = ⊥
 is_step_by Accounts options facts moment t step = IsAccountStep (run_edits options facts moment t) t step
 
--- the most steps that it takes
+-- The most steps that a run takes.
 unfoldable pub work_by : Task → Options → Values → ℕ → Files → ℕ
 work_by Phases options facts moment t = phases_work options facts moment t
 work_by Report options facts moment t = 0
 work_by Explain options facts moment t = 0
 work_by Accounts options facts moment t = accounts_work options facts moment t
 
--- ---- what is said
+-- ---- messages
 
--- what a complete run has said after messages that were there before
+-- The messages of a complete run, after earlier messages.
 abbrev pub HasMessagesBy : Task → Options → Values → ℕ → Files → List (List ℕ) → List (List ℕ) → Type 0
 HasMessagesBy task options facts moment t old new =
     (new_messages : List (List ℕ)) × (AreMessagesBy task options facts moment t new_messages × (new ≡ old ++ read_by task options facts t ++ new_messages))
 
--- what any run has said: a prefix of what is said in reading, or of all that a complete run says
+-- The messages of any run, after earlier messages: a prefix of those about reading, or of all that a complete run
+-- gives.
 abbrev pub HasMessagesPartBy : Task → Options → Values → ℕ → Files → List (List ℕ) → List (List ℕ) → Type 0
 HasMessagesPartBy task options facts moment t old new =
     MessagesPart (read_by task options facts t) old new
@@ -88,31 +89,31 @@ HasMessagesPartBy task options facts moment t old new =
 
 -- ---- steps and messages together
 
--- which steps are done and what is said after reading, by so many refused steps: the phases before the one at work are done
--- and those after it not begun, and so it is with the lines of creating; of accounts all is said, since that comes before
--- the first step; a report and an explanation do no step
+-- The steps and messages after reading where a run was cut short. For phases, those before the one at work are done,
+-- and those after it have not begun. In creating the same holds of the lines. systemd-sysusers gives all its messages
+-- before its first step. A report and an explanation do no step.
 unfoldable pub IsCutBy : Task → Options → Values → ℕ → ℕ → Files → List Step → List (List ℕ) → Type 0
 IsCutBy Phases options facts moment refused t steps new_messages = phases_cut options facts moment refused t steps new_messages
 IsCutBy Report options facts moment refused t steps new_messages = (refused ≡ 0) × (steps ≡ [])
 IsCutBy Explain options facts moment refused t steps new_messages = (refused ≡ 0) × (steps ≡ [])
 IsCutBy Accounts options facts moment refused t steps new_messages = new_messages ≡ account_messages options facts moment t
 
--- what a run has said that has read its configuration and done these steps
+-- What a run has said that has read its configuration and done these steps.
 abbrev pub HasGoneBy : Task → Options → Values → ℕ → ℕ → Files → List Step → List (List ℕ) → List (List ℕ) → Type 0
 HasGoneBy task options facts moment refused t steps old new =
     (new_messages : List (List ℕ)) × ((new ≡ old ++ read_by task options facts t ++ new_messages) × IsCutBy task options facts moment refused t steps new_messages)
 
 -- ---- crash safety
 
--- of a run of one phase, of the boot command, and of a run that makes accounts; a report and an explanation do no step
+-- Crash safety by the task: of one phase, the boot command, and systemd-sysusers. A report and an explanation do no
+-- step.
 unfoldable pub RecoversIn : Task → Options → Values → ℕ → Files → List Step → Type 0
 RecoversIn Phases options facts moment t steps = RecoversBy (phases_of options) (run_lines options facts t) moment t steps
 RecoversIn Report options facts moment t steps = steps ≡ []
 RecoversIn Explain options facts moment t steps = steps ≡ []
 RecoversIn Accounts options facts moment t steps = accounts.Recovers (run_requests options facts t) moment t steps
 
--- the same is read of the tree that it has left, and a second run, which reads its lines there, completes it: a run of one phase, the
--- boot command, and a run that makes accounts
+-- Crash safety if the complete run reads its lines from the tree at the stop. The same configuration is read there.
 unfoldable pub RecoversAnewIn : Task → Options → Values → ℕ → Files → List Step → Type 0
 RecoversAnewIn Phases options facts moment t steps = IsReread options facts moment t steps × RecoversAnew options facts moment t steps
 RecoversAnewIn Report options facts moment t steps = ⊤
@@ -121,23 +122,30 @@ RecoversAnewIn Accounts options facts moment t steps = AreRequestsReread options
 
 -- ---- by the options
 
+-- The tree that a complete run leaves.
 abbrev pub final : Options → Values → ℕ → Files → Files
 final options facts moment t = final_by (task_of options) options facts moment t
 
+-- The messages about reading the configuration and about duplicate lines.
 abbrev pub read_messages : Options → Values → Files → List (List ℕ)
 read_messages options facts t = read_by (task_of options) options facts t
 
+-- The messages that follow.
 abbrev pub AreMessages : Options → Values → ℕ → Files → List (List ℕ) → Type 0
 AreMessages options facts moment t new_messages = AreMessagesBy (task_of options) options facts moment t new_messages
 
+-- How a complete run ends.
 abbrev pub run_end : Options → Values → ℕ → Files → RunEnd
 run_end options facts moment t = end_by (task_of options) options facts moment t
 
+-- An intermediate state of a run.
 abbrev pub run_way : Options → Values → ℕ → Files → Files → Type 0
 run_way options facts moment t u = way_by (task_of options) options facts moment t u
 
+-- A step of a run.
 abbrev pub is_run_step : Options → Values → ℕ → Files → Step → Type 0
 is_run_step options facts moment t step = is_step_by (task_of options) options facts moment t step
 
+-- The most steps that a run takes.
 abbrev pub run_work : Options → Values → ℕ → Files → ℕ
 run_work options facts moment t = work_by (task_of options) options facts moment t

@@ -1,7 +1,7 @@
--- The moment of a run (systemd-tmpfiles(8)).
+-- The time of a run (systemd-tmpfiles(8)).
 use Rattle.std.specs.Prelude.{ℕ, unwrap_or}
 use Rattle.pv_words.specs.declared.options.Options.{Options}
 
--- that of `--now`, or else the clock's
+-- The time of `--now`. If it is not given, that of the clock.
 abbrev pub moment_of : Options → ℕ → ℕ
-moment_of options clock = unwrap_or options.now clock
+moment_of options clock_micros = unwrap_or options.now clock_micros

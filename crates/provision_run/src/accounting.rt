@@ -21,7 +21,7 @@ use pv_text::{Facts, Messages};
 use pv_words::Options;
 use std::alloc::{AllocError, Global};
 
-/// Reads the configuration of a tree and makes the users and groups that its lines ask for (systemd-sysusers(8)).
+/// Reads the configuration of a tree, and makes the users and groups that its lines ask for (systemd-sysusers(8)).
 pub(crate) fn make_accounts<T: Tree>(
     alloc: Global,
     options: &Options,
@@ -59,7 +59,7 @@ pub(crate) fn make_accounts<T: Tree>(
     ended(alloc, answer, read.missing, read.invalid, messages)
 }
 
-/// How a run ended, by its answer and what was read; it says for which name no number is left.
+/// Returns how a run ended, for its answer and what was read. It adds a message if no number is left for a name.
 fn ended(
     alloc: Global,
     answer: Result<Carried, AccountsFault>,
@@ -80,7 +80,7 @@ fn ended(
     }
 }
 
-/// `no free id for NAME`.
+/// Returns the text `no free id for NAME`.
 fn lacking_text(alloc: Global, name: &[u8]) -> Result<Vec<u8>, AllocError>
     ensures text { IfOk result (λ text. text.items ≡ lacking_text name.now) }
     ensures line { IfOk result (λ text. is_line text.items ≡ true) }
@@ -91,7 +91,7 @@ fn lacking_text(alloc: Global, name: &[u8]) -> Result<Vec<u8>, AllocError>
     Ok(text)
 }
 
-/// Says that no number is left for a name.
+/// Adds the message that no number is left for a name.
 fn say_lacking(alloc: Global, name: &[u8], messages: &mut Messages) -> Result<(), AllocError>
     ensures ok { OnOk result (messages.new ≡ messages.old ++ lacking_text name.now ∷ []) }
     ensures err { OnErr result (messages.new ≡ messages.old) }

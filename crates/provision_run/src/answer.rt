@@ -1,4 +1,4 @@
-//! What a run says, from the words and the bytes of its input.
+//! The complete output of a run, from the words and the bytes of its input.
 ghost use Rattle.std.specs.Prelude.{◌≡◌, ◌≢◌, ◌≤◌, ◌↔◌, ◌++◌, [], None, Err, false, true, map, string_bytes, length, IfErr, IfOk, IfSome, IsErrOf};
 ghost use Rattle.pv_image.specs.Images.{HasImageFault, IsImage};
 ghost use Rattle.pv_image.specs.Spelling.{text_of};
@@ -22,12 +22,13 @@ use pv_tree::MemTree;
 use pv_words::{Invocation, Options, WordsFault, parse_args};
 use std::alloc::{AllocError, AllocFailed, Global};
 
-/// How a run ends, with its whole output.
+/// How a run ends, with its complete output.
 #[derive(Drop)]
 pub struct Answer {
-    /// How it ends.
+    /// How the run ends.
     pub outcome: Outcome,
-    /// All that is written: the messages, and where the input is an image, that of the tree that the run leaves.
+    /// Everything that is written: the messages and, if the input is an image, the image of the tree that the run
+    /// leaves.
     pub output: Vec<u8>,
 }
 
@@ -36,7 +37,7 @@ pub struct Answer {
 pub enum NoAnswer {
     /// The source failed.
     ReadFault,
-    /// Memory ran out.
+    /// Out of memory.
     Memory,
 }
 
@@ -56,7 +57,7 @@ impl<T: Drop> From<AllocFailed<T>> for NoAnswer {
     }
 }
 
-/// The answer that is one message.
+/// Returns the answer that is one message.
 pub(crate) fn one_message(
     alloc: Global,
     outcome: Outcome,
@@ -69,7 +70,7 @@ pub(crate) fn one_message(
     Ok(Answer { outcome, output })
 }
 
-/// The answer to an input that is not an image.
+/// Returns the answer to an input that is not an image.
 fn refuse(alloc: Global, fault: ImageFault) -> Result<Answer, AllocError>
     ensures { IfOk result (λ answer. (answer.outcome ≡ Outcome.BadImage fault) × (answer.output.items ≡ message (bad_image_text fault))) }
 {
@@ -77,7 +78,7 @@ fn refuse(alloc: Global, fault: ImageFault) -> Result<Answer, AllocError>
     one_message(alloc, Outcome::BadImage(fault), &text)
 }
 
-/// The messages of a run and the image of its tree.
+/// Returns the answer of a run: its messages and the image of its tree.
 fn finish(
     alloc: Global,
     outcome: Outcome,
@@ -99,13 +100,13 @@ fn run_over(
     alloc: Global,
     image: Image,
     options: &Options,
-    clock: u64,
+    clock_micros: u64,
 ) -> Result<Answer, AllocError>
     requires fresh { image.tree.steps ≡ [] }
-    ensures { IfOk result (λ answer. IsAnswered options.entry.now image.facts (moment_of options.entry.now clock) image.tree.files answer.outcome answer.output.items) }
+    ensures { IfOk result (λ answer. IsAnswered options.entry.now image.facts (moment_of options.entry.now clock_micros) image.tree.files answer.outcome answer.output.items) }
 {
     let Image { mut tree, facts } = image;
-    let moment = options.now.unwrap_or(clock);
+    let moment = options.now.unwrap_or(clock_micros);
     let mut messages = Messages::new(alloc);
     match run_limited(alloc, options, &facts, moment, &mut tree, &mut messages) {
         Ok(outcome) => finish(alloc, outcome, &messages, &tree, &facts),
@@ -114,7 +115,7 @@ fn run_over(
     }
 }
 
-/// The image of an input, whose bytes are given up.
+/// Reads the image of an input, and frees the bytes of the input.
 fn read_input(alloc: Global, bytes: Vec<u8>) -> Result<Image, ImageFault>
     ensures image { IfOk result (λ image. IsImage bytes.items image.facts image.tree.files) }
     ensures steps { IfOk result (λ image. image.tree.steps ≡ []) }
@@ -124,44 +125,44 @@ fn read_input(alloc: Global, bytes: Vec<u8>) -> Result<Image, ImageFault>
     read_image(alloc, &bytes)
 }
 
-/// The answer to the bytes of an input, which are given up once they are read.
+/// Returns the answer to the bytes of an input. They are freed as soon as they are read.
 fn answer_bytes(
     alloc: Global,
     bytes: Vec<u8>,
     options: &Options,
-    clock: u64,
+    clock_micros: u64,
 ) -> Result<Answer, AllocError>
     requires fits { length bytes.items ≤ most_bytes }
-    ensures { IfOk result (λ answer. IsAnswer options.entry.now clock bytes.items answer.outcome answer.output.items) }
+    ensures { IfOk result (λ answer. IsAnswer options.entry.now clock_micros bytes.items answer.outcome answer.output.items) }
 {
     match read_input(alloc, bytes) {
-        Ok(image) => run_over(alloc, image, options, clock),
+        Ok(image) => run_over(alloc, image, options, clock_micros),
         Err(ImageFault::Memory) => Err(AllocError),
         Err(fault) => refuse(alloc, fault),
     }
 }
 
-/// The answer to options and what a source has left.
+/// Returns the answer to options and the input that a source has left.
 fn answer_source<S: Source>(
     alloc: Global,
     options: &Options,
-    clock: u64,
+    clock_micros: u64,
     source: &mut S,
 ) -> Result<Answer, NoAnswer>
     ensures output { IfOk result (λ answer. IfSome (S.left source.old)
-        (λ input. IsAnswer options.entry.now clock input answer.outcome answer.output.items)) }
+        (λ input. IsAnswer options.entry.now clock_micros input answer.outcome answer.output.items)) }
     ensures own { IfOk result (λ answer. IsOwn answer.outcome × (answer.outcome ≢ Outcome.Usage)) }
     ensures cause { IsErrOf result NoAnswer.ReadFault → HasRisen (S.faults source.old) (S.faults source.new) }
 {
     match read_all(alloc, source) {
-        Ok(bytes) => Ok(answer_bytes(alloc, bytes, options, clock)?),
+        Ok(bytes) => Ok(answer_bytes(alloc, bytes, options, clock_micros)?),
         Err(ReadAllFault::TooLong) => Ok(refuse(alloc, ImageFault::TooLong)?),
         Err(ReadAllFault::ReadFault) => Err(NoAnswer::ReadFault),
         Err(ReadAllFault::Memory) => Err(NoAnswer::Memory),
     }
 }
 
-/// The answer to words that ask for a run over a generated tree.
+/// Returns the answer to words that ask for a run over a generated tree.
 fn answer_generated(alloc: Global, seed: u64, count: u32) -> Result<Answer, AllocError>
     ensures { IfOk result (λ answer. (answer.outcome ≡ Outcome.Done) × IsGenerated seed count answer.output.items) }
 {
@@ -172,28 +173,34 @@ fn answer_generated(alloc: Global, seed: u64, count: u32) -> Result<Answer, Allo
     })
 }
 
-/// The answer to words and what a source has left.
+/// Returns the answer to the words of a command, and reads the input from the source if the words ask for it.
+///
+/// `words` are the arguments without the program's name. `clock_micros` is in microseconds since 1970-01-01 UTC.
+/// Nothing is written. For words without a meaning the outcome is `Usage`, and the source is not read.
+///
+/// - `Err(ReadFault)`: the source failed, and has counted an error.
+/// - `Err(Memory)`: out of memory.
 pub fn respond<S: Source>(
     alloc: Global,
     words: &[String],
-    clock: u64,
+    clock_micros: u64,
     source: &mut S,
 ) -> Result<Answer, NoAnswer>
     ensures output { IfOk result (λ answer. IfSome (S.left source.old)
-        (λ input. HasOutput (map string_bytes words.now) clock input answer.outcome answer.output.items)) }
+        (λ input. HasOutput (map string_bytes words.now) clock_micros input answer.outcome answer.output.items)) }
     ensures own { IfOk result (λ answer. IsOwn answer.outcome) }
     ensures usage { IfOk result (λ answer. (answer.outcome ≡ Outcome.Usage) ↔ (parse_args (map string_bytes words.now) ≡ None)) }
     ensures known { IsErrOf result NoAnswer.ReadFault → parse_args (map string_bytes words.now) ≢ None }
     ensures cause { IsErrOf result NoAnswer.ReadFault → HasRisen (S.faults source.old) (S.faults source.new) }
     ensures unread { parse_args (map string_bytes words.now) ≡ None → source.new ≡ source.old }
 
-    // Only a run of a tool reads the source; one over a generated tree says the same whatever the source.
+    // Only a run of a tool reads the source. A run over a generated tree writes the same whatever the source has.
     ensures input_unread { reads_input (parse_args (map string_bytes words.now)) ≡ false → source.new ≡ source.old }
     ensures asked { IsErrOf result NoAnswer.ReadFault → reads_input (parse_args (map string_bytes words.now)) ≡ true }
     ensures generated { IfOk result (λ answer. IsGeneratedBy (parse_args (map string_bytes words.now)) answer.outcome answer.output.items) }
 {
     match parse_args(alloc, words) {
-        Ok(Invocation::Run(options)) => answer_source(alloc, &options, clock, source),
+        Ok(Invocation::Run(options)) => answer_source(alloc, &options, clock_micros, source),
         Ok(Invocation::Generate { seed, count }) => Ok(answer_generated(alloc, seed, count)?),
         Err(WordsFault::Usage) => Ok(one_message(alloc, Outcome::Usage, b"usage")?),
         Err(WordsFault::Memory) => Err(NoAnswer::Memory),

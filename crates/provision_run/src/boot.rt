@@ -18,8 +18,28 @@ use pv_table::Table;
 use pv_text::Messages;
 use std::alloc::Global;
 
-/// Carries out the boot command (systemd-tmpfiles(8), --remove --create): takes away what lines name, then makes and
-/// adjusts over the tree that is left.
+/// Carries out the boot command (systemd-tmpfiles(8), `--remove --create`). It removes what lines name, and then
+/// creates over the tree that is left.
+///
+/// - `table` has the active lines.
+/// - `now` is the time of the run, in microseconds since 1970-01-01 UTC.
+/// - `messages` gets the messages of removing and then those of creating, after those that it has.
+///
+/// The answer is one of these:
+///
+/// - `Ok(Whole)`: everything was carried out. `Ok(NotCarriedOut)`: a line was refused, or a removal is unfinished.
+/// - `Err(Failed)`: the tree refused a step, and none was done after it.
+/// - `Err(Memory)`: out of memory.
+///
+/// After an error, a prefix of the messages was added. Creating has not begun before removing is finished.
+///
+/// A run may be stopped after any step. A complete run at any time then leaves the same tree as one complete run,
+/// except for timestamps and staging names. The premises are these:
+///
+/// - No line has a hazard, and no line copies.
+/// - A complete removal from the first tree leaves nothing unfinished.
+/// - After a complete removal, creating refuses no line, from the first tree and from the tree that the stopped run
+///   left.
 pub fn boot_run<T: Tree>(
     alloc: Global,
     tree: &mut T,
@@ -27,14 +47,14 @@ pub fn boot_run<T: Tree>(
     now: u64,
     messages: &mut Messages,
 ) -> Result<Carried, TreeFault>
-    // What a complete run leaves, timestamps and staging names included, what it says and how it ends.
+    // The tree that a complete run leaves, timestamps and staging names included, its messages and its answer.
     ensures ok { OnOk result (T.state tree.new ≡ booted table.now now (T.state tree.old)) }
     ensures new_messages { OnOk result (messages.new ≡ messages.old ++ booted_messages table.now now (T.state tree.old)) }
     ensures carried { IfOk result (λ c. c ≡ carried_of (is_boot_unfinished table.now now (T.state tree.old))) }
     ensures staged { OnOk result (LeavesNoStagingName table.now now (removed table.now now (T.state tree.old))
         (T.state tree.new)) }
 
-    // What any run has said and done, whatever it answers.
+    // The messages and steps of every run, whatever the answer.
     ensures part { MessagesPart (booted_messages table.now now (T.state tree.old)) messages.old messages.new }
     ensures acted { Acted T.Tree (Partway (phases_course table.now now) boot_phases (T.state tree.old))
         (IsStepOfSome (phases_course table.now now) boot_phases (T.state tree.old))
@@ -47,7 +67,7 @@ pub fn boot_run<T: Tree>(
     ensures again { BootRecoversAgain table.now now (T.state tree.old) (steps_done T.Tree tree.old tree.new) }
     ensures one_more { IsBootStoppedAgain table.now now (T.state tree.old) (steps_done T.Tree tree.old tree.new) }
 
-    // What it has left at each moment, and what each step gives, whatever it answers.
+    // What it leaves at each moment, and what each step gives, whatever the answer.
     ensures framed { IsFramed table.now now (T.state tree.old) (steps_done T.Tree tree.old tree.new) }
     ensures between { IsBootBetween table.now now (T.state tree.old) (steps_done T.Tree tree.old tree.new) }
     ensures input { KeepsInput table.now now (T.state tree.old) (steps_done T.Tree tree.old tree.new) }

@@ -19,8 +19,8 @@ use pv_text::{Facts, Messages};
 use pv_words::Options;
 use std::alloc::Global;
 
-/// Reads the configuration of a tree and carries out the phases that the options ask for (systemd-tmpfiles(8)): removing,
-/// cleaning and creating in this order, or purging alone.
+/// Reads the configuration of a tree, and carries out the phases that the options ask for (systemd-tmpfiles(8)). These
+/// are removing, cleaning and creating, in this order, or purging alone.
 pub(crate) fn run_configured_phases<T: Tree>(
     alloc: Global,
     options: &Options,

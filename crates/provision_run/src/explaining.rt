@@ -1,4 +1,4 @@
-//! An explanation of one path.
+//! The explanation of one path.
 ghost use Rattle.std.specs.Prelude.{◌≡◌, ◌++◌, map, is_some, true, None, Some, IfOk, OnOk};
 ghost use Rattle.pv_text.specs.Lines.{is_line};
 ghost use Rattle.provision_run.specs.Explained.{act_text, act_word, explained_messages, HasExplained, HasExplainedPart, last_text};
@@ -15,8 +15,8 @@ use pv_text::{Facts, Messages, say_all};
 use pv_words::Options;
 use std::alloc::{AllocError, Global};
 
-/// Reads the configuration of a tree. Says which of its active lines act on the path that the options name, and which
-/// object is there after them.
+/// Reads the configuration of a tree, and explains the path that the options name. The messages say which active lines
+/// change what is there, and which object is there after them.
 pub(crate) fn explain_run<T: Tree>(
     alloc: Global,
     options: &Options,
@@ -38,7 +38,7 @@ pub(crate) fn explain_run<T: Tree>(
     Ok(end_of(Carried::Whole, read.missing, read.invalid))
 }
 
-/// The word for what a line does.
+/// Returns the word for what a line does.
 fn act_word(act: Act) -> &'static [u8]
     ensures text { result.now ≡ act_word act }
     ensures line { is_line result.now ≡ true }
@@ -50,7 +50,7 @@ fn act_word(act: Act) -> &'static [u8]
     }
 }
 
-/// `explain FILE:N ACT PATH`.
+/// Returns the text `explain FILE:N ACT PATH`.
 fn act_text(alloc: Global, path: &TreePath, found: &LineAct) -> Result<Vec<u8>, AllocError>
     ensures text { IfOk result (λ text. text.items ≡ act_text path.now found.now) }
     ensures line { IfOk result (λ text. is_line text.items ≡ true) }
@@ -66,7 +66,7 @@ fn act_text(alloc: Global, path: &TreePath, found: &LineAct) -> Result<Vec<u8>, 
     Ok(text)
 }
 
-/// `explain PATH is absent`.
+/// Returns the text `explain PATH is absent`.
 fn absent_text(alloc: Global, path: &TreePath) -> Result<Vec<u8>, AllocError>
     ensures text { IfOk result (λ text. text.items ≡ last_text path.now None) }
     ensures line { IfOk result (λ text. is_line text.items ≡ true) }
@@ -78,7 +78,8 @@ fn absent_text(alloc: Global, path: &TreePath) -> Result<Vec<u8>, AllocError>
     Ok(text)
 }
 
-/// `explain PATH is`, a space and an object as an image has it, without its path and its timestamps.
+/// Returns the text `explain PATH is OBJECT`. The object is written as in an image, without its path and its
+/// timestamps.
 fn object_text(
     alloc: Global,
     path: &TreePath,
@@ -97,7 +98,7 @@ fn object_text(
     Ok(text)
 }
 
-/// The text on the object at the path after all lines.
+/// Returns the text on the object at the path after all lines.
 fn last_text(
     alloc: Global,
     path: &TreePath,
@@ -112,7 +113,7 @@ fn last_text(
     }
 }
 
-/// Says which lines act on the path.
+/// Adds the messages on the lines that change what is at the path.
 fn say_acts(
     alloc: Global,
     path: &TreePath,
@@ -127,7 +128,7 @@ fn say_acts(
     Ok(())
 }
 
-/// Says which lines act on the path, and which object is there after all lines.
+/// Adds the messages on the lines that change what is at the path, and on the object there after all lines.
 fn say_explained(
     alloc: Global,
     path: &TreePath,

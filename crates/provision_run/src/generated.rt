@@ -1,10 +1,10 @@
-//! A run over a generated tree, of which three messages tell.
+//! A run over a generated tree, which gives three messages.
 ghost use Rattle.std.specs.Prelude.{◌≡◌, ◌↔◌, [], ◌∷◌, length, IfOk, OnOk};
 ghost use Rattle.std.specs.FinMap as fin;
 ghost use Rattle.pv_overlap.specs.Reporting.{ListsOverlaps, ListsReasons};
 ghost use Rattle.pv_overlap.specs.GivenMessages.{verdict};
 ghost use Rattle.pv_table.specs.Repeatable.{IsRepeatable};
-ghost use Rattle.provision_run.specs.Generated.{create_alone, created, created_text, generated_moment, generated_text, IsGenerated, IsToldOf, lines_in, no_facts, overlaps_text};
+ghost use Rattle.provision_run.specs.Generated.{create_alone, created, created_text, generated_moment, generated_text, IsGenerated, IsGeneratedOutput, lines_in, no_facts, overlaps_text};
 ghost use Rattle.provision_run.specs.Messages.{messages_text};
 ghost use Rattle.provision_run.specs.Tasks.{task_of};
 ghost use Rattle.provision_run.specs.Whole.{HasMessagesBy};
@@ -22,10 +22,10 @@ use pv_tree::MemTree;
 use pv_words::Options;
 use std::alloc::{AllocError, Global};
 
-/// The moment of a run over a generated tree, in microseconds since 1970.
+/// The time of a run over a generated tree, in microseconds since 1970-01-01 UTC.
 const MOMENT: u64 = 1_000_000_000_000;
 
-/// What is written of the run of `systemd-tmpfiles --create` over the tree of a seed and a number of lines.
+/// Returns what is written of the run of `systemd-tmpfiles --create` over the tree of a seed and a number of lines.
 pub(crate) fn run_generated(alloc: Global, seed: u64, count: u32) -> Result<Vec<u8>, AllocError>
     ensures { IfOk result (λ text. IsGenerated seed count text.items) }
 {
@@ -33,11 +33,12 @@ pub(crate) fn run_generated(alloc: Global, seed: u64, count: u32) -> Result<Vec<
     run_over_lines(alloc, tree, count)
 }
 
-/// What is written of a run over a tree with so many lines. It says how many nodes the tree has, and how many nodes and
-/// messages there are after the run. It also says how many pairs of lines overlap, and whether the lines are
-/// repeatable.
+/// Returns what is written of a run over a tree with this number of lines.
+///
+/// It says how many nodes the tree has, and how many nodes and messages there are after the run. It also says how many
+/// pairs of lines overlap, and whether the lines are repeatable.
 fn run_over_lines(alloc: Global, tree: MemTree, lines: u32) -> Result<Vec<u8>, AllocError>
-    ensures { IfOk result (λ text. IsToldOf lines tree.files text.items) }
+    ensures { IfOk result (λ text. IsGeneratedOutput lines tree.files text.items) }
 {
     let mut tree = tree;
     let before = node_count(alloc, &tree)?;
@@ -48,7 +49,7 @@ fn run_over_lines(alloc: Global, tree: MemTree, lines: u32) -> Result<Vec<u8>, A
     Ok(text)
 }
 
-/// The messages on a tree with so many lines and nodes, on the nodes and messages after the run, and on the report.
+/// Returns the three messages.
 fn three_messages(
     alloc: Global,
     lines: u32,
@@ -67,7 +68,7 @@ fn three_messages(
     Ok(output)
 }
 
-/// The report on the lines of the configuration of a tree.
+/// Returns the report on the lines of the configuration of a tree.
 fn report_on(alloc: Global, tree: &MemTree) -> Result<Report, AllocError>
     ensures overlaps { IfOk result (λ report. ListsOverlaps (lines_in tree.now.files) report.pairs) }
     ensures reasons { IfOk result (λ report. ListsReasons (lines_in tree.now.files) report.unrepeatable) }
@@ -81,7 +82,7 @@ fn report_on(alloc: Global, tree: &MemTree) -> Result<Report, AllocError>
     report(alloc, &lines)
 }
 
-/// The options of `systemd-tmpfiles --create`.
+/// Returns the options of `systemd-tmpfiles --create`.
 fn create_alone(alloc: Global) -> Options
     ensures { result ≡ create_alone }
 {
@@ -102,7 +103,7 @@ fn create_alone(alloc: Global) -> Options
     }
 }
 
-/// Creates in a tree what its configuration asks for, and gives the messages.
+/// Creates in a tree what its configuration asks for, and returns the messages.
 fn create(alloc: Global, tree: &mut MemTree) -> Result<Messages, AllocError>
     ensures tree { OnOk result (tree.new.files ≡ created tree.old.files) }
     ensures new_messages { IfOk result (HasMessagesBy (task_of create_alone) create_alone no_facts generated_moment tree.old.files []) }
@@ -117,7 +118,7 @@ fn create(alloc: Global, tree: &mut MemTree) -> Result<Messages, AllocError>
     }
 }
 
-/// `generated COUNT lines NODES nodes`.
+/// Returns the text `generated COUNT lines NODES nodes`.
 fn generated_text(alloc: Global, lines: u32, nodes: u64) -> Result<Vec<u8>, AllocError>
     ensures { IfOk result (λ text. text.items ≡ generated_text lines nodes) }
 {
@@ -131,7 +132,7 @@ fn generated_text(alloc: Global, lines: u32, nodes: u64) -> Result<Vec<u8>, Allo
     Ok(text)
 }
 
-/// `created NODES nodes MESSAGES messages`.
+/// Returns the text `created NODES nodes MESSAGES messages`.
 fn created_text(alloc: Global, nodes: u64, messages: usize) -> Result<Vec<u8>, AllocError>
     ensures { IfOk result (λ text. text.items ≡ created_text nodes messages) }
 {
@@ -145,7 +146,7 @@ fn created_text(alloc: Global, nodes: u64, messages: usize) -> Result<Vec<u8>, A
     Ok(text)
 }
 
-/// `PAIRS overlaps, VERDICT`.
+/// Returns the text `PAIRS overlaps, VERDICT`.
 fn overlaps_text(alloc: Global, report: &Report) -> Result<Vec<u8>, AllocError>
     ensures { let pairs = length report.now.pairs in
         IfOk result (λ text. text.items ≡ overlaps_text pairs (verdict report.now.unrepeatable)) }

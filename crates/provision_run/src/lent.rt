@@ -7,7 +7,7 @@ use pv_path::{NameList, TreePath};
 use pv_steps::{Node, Step, Tree, TreeFault};
 use std::alloc::{AllocError, Global};
 
-/// A tree that is lent: what is done with it is done to the one that lends. It counts the steps that are refused there.
+/// A tree that is borrowed. Each call is passed on to the lender, and refused steps are counted here too.
 #[derive(Drop)]
 pub(crate) struct Lent<'a, T: Tree> {
     tree: &'a mut T,
@@ -15,7 +15,7 @@ pub(crate) struct Lent<'a, T: Tree> {
 }
 
 impl<'a, T: Tree> Lent<'a, T> {
-    /// A tree as a lent one, of which no step was refused.
+    /// Borrows a tree. No step was refused yet.
     pub(crate) fn new(tree: &'a mut T) -> Lent<'a, T>
         ensures same { result.tree.ghost_name ≡ tree.entry.ghost_name }
         ensures now { result.tree.now ≡ tree.old }

@@ -1,4 +1,6 @@
-//! One run of the program, from words and an image to messages and an image.
+//! One run of the program as a library call. [`provision`] reads an image from a source, carries out what the words of
+//! a command ask for, and writes messages and an image to a sink. [`provision_all`] can also run on a folder of a host.
+//! [`run_on_tree`] does the same over any tree, without reading or writing an image.
 #![tactic(auto)]
 
 mod accounting;

@@ -11,7 +11,9 @@ use pv_image::ImageFault;
 use pv_text::Messages;
 use std::alloc::{AllocError, Global};
 
-/// Adds a message to a text.
+/// Adds a message to a text, as one line: a colon, a space, the text of the message and a line feed.
+///
+/// The only error is `AllocError`.
 pub fn add_message(output: &mut Vec<u8>, text: &[u8]) -> Result<(), AllocError>
     ensures { OnOk result (output.new.items ≡ output.old.items ++ message text.now) }
 {
@@ -21,7 +23,7 @@ pub fn add_message(output: &mut Vec<u8>, text: &[u8]) -> Result<(), AllocError>
     Ok(())
 }
 
-/// The text of all messages, each of which is one line.
+/// Returns the text of all messages, each of which is one line. The only error is `AllocError`.
 pub fn print_messages(alloc: Global, messages: &Messages) -> Result<Vec<u8>, AllocError>
     ensures lines { are_lines messages.now ≡ true }
     ensures text { IfOk result (λ text. text.items ≡ messages_text messages.now) }
@@ -33,7 +35,7 @@ pub fn print_messages(alloc: Global, messages: &Messages) -> Result<Vec<u8>, All
     Ok(output)
 }
 
-/// Adds the message at a place, if there is one.
+/// Adds the message at an index, if there is one.
 fn add_line(output: &mut Vec<u8>, messages: &Messages, i: usize) -> Result<(), AllocError>
     ensures { OnOk result (output.new.items ≡ output.old.items ++ message_at messages.now i) }
 {
@@ -43,7 +45,7 @@ fn add_line(output: &mut Vec<u8>, messages: &Messages, i: usize) -> Result<(), A
     }
 }
 
-/// `bad image at line N: NAME`.
+/// Returns the text `bad image at line N: NAME`.
 fn at_line(alloc: Global, number: u64, name: &str) -> Result<Vec<u8>, AllocError>
     ensures { IfOk result (λ text. text.items ≡ at_line number name.now) }
 {
@@ -55,7 +57,9 @@ fn at_line(alloc: Global, number: u64, name: &str) -> Result<Vec<u8>, AllocError
     Ok(text)
 }
 
-/// The message on an input that is not an image.
+/// Returns the message on an input that is not an image, such as `bad image at line 3: BadLine`.
+///
+/// For `Memory`, which does not blame the input, the text is empty. The only error is `AllocError`.
 pub fn bad_image(alloc: Global, fault: ImageFault) -> Result<Vec<u8>, AllocError>
     ensures { IfOk result (λ text. text.items ≡ bad_image_text fault) }
 {
@@ -70,7 +74,9 @@ pub fn bad_image(alloc: Global, fault: ImageFault) -> Result<Vec<u8>, AllocError
     }
 }
 
-/// What is said of a folder that is not opened: the name of the fault, and nothing if the folder is not at fault.
+/// Returns the message on a folder that cannot be opened, such as `bad folder: NotPrepared`.
+///
+/// For `HostFailed` and `Memory`, which do not blame the folder, the text is empty. The only error is `AllocError`.
 pub fn bad_folder(alloc: Global, fault: &OpenFault) -> Result<Vec<u8>, AllocError>
     ensures text { IfOk result (λ text. text.items ≡ bad_folder_text fault.now) }
     ensures line { IfOk result (λ text. is_line text.items ≡ true) }
@@ -84,7 +90,7 @@ pub fn bad_folder(alloc: Global, fault: &OpenFault) -> Result<Vec<u8>, AllocErro
     }
 }
 
-/// `stopped after N steps`.
+/// Returns the text `stopped after N steps`.
 fn stopped_text(alloc: Global, count: u64) -> Result<Vec<u8>, AllocError>
     ensures text { IfOk result (λ text. text.items ≡ stopped_text count) }
     ensures line { IfOk result (λ text. is_line text.items ≡ true) }
@@ -96,7 +102,7 @@ fn stopped_text(alloc: Global, count: u64) -> Result<Vec<u8>, AllocError>
     Ok(text)
 }
 
-/// Says that a run was stopped after so many steps.
+/// Adds the message that a run was stopped after this number of steps. The only error is `AllocError`.
 pub fn say_stopped(alloc: Global, count: u64, messages: &mut Messages) -> Result<(), AllocError>
     ensures ok { OnOk result (messages.new ≡ messages.old ++ stopped_text count ∷ []) }
 {

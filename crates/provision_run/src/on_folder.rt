@@ -21,22 +21,22 @@ use pv_text::{Facts, Messages};
 use pv_words::{Options, Rooted};
 use std::alloc::{AllocError, Global};
 
-/// The answer to words that name a folder, and what the folder then holds.
+/// Runs on the folder that words name, and returns the answer. The tree that the run left is then in the folder.
 pub(crate) fn answer_folder<H: Host>(
     alloc: Global,
     rooted: &Rooted,
-    clock: u64,
+    clock_micros: u64,
     host: &mut H,
 ) -> Result<Answer, AllocError>
-    ensures output { IfOk result (λ answer. HasOutputOn (spelled rooted.entry.now.folder) rooted.entry.now.options clock
+    ensures output { IfOk result (λ answer. HasOutputOn (spelled rooted.entry.now.folder) rooted.entry.now.options clock_micros
         (record { content = H.content host.old; changes = H.changes host.old; faults = H.faults host.old })
         (record { content = H.content host.new; changes = H.changes host.new; faults = H.faults host.new }) answer.outcome answer.output.items) }
-    ensures short { OnErr result (IsShortOn (spelled rooted.entry.now.folder) rooted.entry.now.options clock
+    ensures short { OnErr result (IsShortOn (spelled rooted.entry.now.folder) rooted.entry.now.options clock_micros
         (record { content = H.content host.old; changes = H.changes host.old; faults = H.faults host.old })
         (record { content = H.content host.new; changes = H.changes host.new; faults = H.faults host.new })) }
 {
     match read_folder(alloc, host, rooted.folder.as_slice()) {
-        Ok(image) => run_opened(alloc, rooted, image, clock, host),
+        Ok(image) => run_opened(alloc, rooted, image, clock_micros, host),
         Err(OpenFault::Memory) => Err(AllocError),
         Err(OpenFault::HostFailed) => Ok(Answer {
             outcome: Outcome::FolderFailed,
@@ -46,7 +46,7 @@ pub(crate) fn answer_folder<H: Host>(
     }
 }
 
-/// The answer where the folder cannot be run on.
+/// Returns the answer for a folder that cannot be used.
 fn refuse_folder(alloc: Global, fault: OpenFault) -> Result<Answer, AllocError>
     ensures outcome { IfOk result (λ answer. answer.outcome ≡ Outcome.BadFolder fault) }
     ensures output { IfOk result (λ answer. answer.output.items ≡ messages_text (bad_folder_text fault ∷ [])) }
@@ -55,21 +55,22 @@ fn refuse_folder(alloc: Global, fault: OpenFault) -> Result<Answer, AllocError>
     one_message(alloc, Outcome::BadFolder(fault), &text)
 }
 
-/// Runs over the tree of a folder that was opened, and keeps there what the run has left, whatever the run answered.
+/// Runs over the tree of a folder that was opened, and writes the manifest of the tree that is left, whatever the run
+/// answered.
 fn run_opened<H: Host>(
     alloc: Global,
     rooted: &Rooted,
     image: Image,
-    clock: u64,
+    clock_micros: u64,
     host: &mut H,
 ) -> Result<Answer, AllocError>
     requires fresh { image.tree.steps ≡ [] }
     requires opened { IfSome (H.content host.old) (λ c. IsOpened (spelled rooted.now.folder) c image.facts image.tree.files) }
     requires ready { IfSome (H.content host.old) (λ c. Keeps (spelled rooted.now.folder) image.tree.files c) }
-    ensures output { IfOk result (λ answer. HasOutputOn (spelled rooted.entry.now.folder) rooted.entry.now.options clock
+    ensures output { IfOk result (λ answer. HasOutputOn (spelled rooted.entry.now.folder) rooted.entry.now.options clock_micros
         (record { content = H.content host.old; changes = H.changes host.old; faults = H.faults host.old })
         (record { content = H.content host.new; changes = H.changes host.new; faults = H.faults host.new }) answer.outcome answer.output.items) }
-    ensures short { OnErr result (IsShortOn (spelled rooted.entry.now.folder) rooted.entry.now.options clock
+    ensures short { OnErr result (IsShortOn (spelled rooted.entry.now.folder) rooted.entry.now.options clock_micros
         (record { content = H.content host.old; changes = H.changes host.old; faults = H.faults host.old })
         (record { content = H.content host.new; changes = H.changes host.new; faults = H.faults host.new })) }
 {
@@ -81,7 +82,7 @@ fn run_opened<H: Host>(
         alloc,
         &rooted.options,
         &facts,
-        clock,
+        clock_micros,
         &mut tree,
         &mut messages,
     );
@@ -92,7 +93,7 @@ fn run_opened<H: Host>(
     }
 }
 
-/// An outcome with its messages.
+/// Returns an outcome with its messages.
 fn with_messages(alloc: Global, outcome: Outcome, messages: &Messages) -> Result<Answer, AllocError>
     ensures outcome { IfOk result (λ answer. answer.outcome ≡ outcome) }
     ensures output { IfOk result (λ answer. answer.output.items ≡ messages_text messages.now) }
@@ -101,12 +102,12 @@ fn with_messages(alloc: Global, outcome: Outcome, messages: &Messages) -> Result
     Ok(Answer { outcome, output })
 }
 
-/// Runs over a tree that a host has in a folder, and keeps there what the run has left, whatever it answered.
+/// Runs over the tree of a folder, and writes the manifest of the tree that is left, whatever the run answered.
 fn run_kept<H: Host>(
     alloc: Global,
     options: &Options,
     facts: &Facts,
-    clock: u64,
+    clock_micros: u64,
     tree: &mut FolderTree<'_, H>,
     messages: &mut Messages,
 ) -> Result<Outcome, OutOfMemory>
@@ -114,36 +115,37 @@ fn run_kept<H: Host>(
     requires messages_kept { messages.old ≡ [] }
     requires opened { IfSome (H.content tree.old.host.now) (λ c. IsOpened (spelled tree.old.folder.items) c facts.now tree.old.tree.files) }
     requires settled { tree.old.pending ≡ false }
-    ensures answer { IfOk result (λ found. IsAnswerOn (spelled tree.old.folder.items) options.entry.now clock
+    ensures answer { IfOk result (λ found. IsAnswerOn (spelled tree.old.folder.items) options.entry.now clock_micros
         (record { content = H.content tree.old.host.now; changes = H.changes tree.old.host.now; faults = H.faults tree.old.host.now })
         (record { content = H.content tree.new.host.now; changes = H.changes tree.new.host.now; faults = H.faults tree.new.host.now }) found messages.new) }
-    ensures short { OnErr result (IsShortOn (spelled tree.old.folder.items) options.entry.now clock
+    ensures short { OnErr result (IsShortOn (spelled tree.old.folder.items) options.entry.now clock_micros
         (record { content = H.content tree.old.host.now; changes = H.changes tree.old.host.now; faults = H.faults tree.old.host.now })
         (record { content = H.content tree.new.host.now; changes = H.changes tree.new.host.now; faults = H.faults tree.new.host.now })) }
 
-    // Where memory ran out in the run, and neither memory nor the host failed in closing, the manifest is that of what is left.
+    // If memory ran out in the run, and neither memory nor the host failed in closing, the manifest is that of the tree
+    // that is left.
     ensures closed { IsErrOf result OutOfMemory.InRun →
         (IfSome (H.content tree.new.host.now) (λ c. held c (manifest_path (spelled tree.old.folder.items)) ≡ Some (File (manifest_of facts.now tree.new.tree.files))))
         ⊎ HasRisen (H.faults tree.old.host.now) (H.faults tree.new.host.now) }
     ensures host { tree.new.host.ghost_name ≡ tree.old.host.ghost_name }
 {
-    let moment = options.now.unwrap_or(clock);
+    let moment = options.now.unwrap_or(clock_micros);
     let ran = run_limited(alloc, options, facts, moment, tree, messages);
     let pending = tree.is_pending();
     let closed = close_folder(alloc, tree, facts);
     outcome_of(ran, pending, closed)
 }
 
-/// Why a run on a folder has no outcome: memory ran out.
+/// Where a run on a folder ran out of memory, so that it has no outcome.
 #[derive(Clone, Copy, PartialEq, Eq)]
 enum OutOfMemory {
-    /// In the run, and the folder is closed then, where the host did not fail in that.
+    /// In the run. The folder is closed then, unless the host fails at that.
     InRun,
-    /// In closing the folder.
+    /// While the folder was being closed.
     InClosing,
 }
 
-/// The outcome of a run, by whether a step of it may be half done, and whether what it has left is kept.
+/// Returns the outcome of a run, by whether a step of it may be half done and whether the folder was closed.
 fn outcome_of(
     ran: Result<Outcome, TreeFault>,
     pending: bool,
@@ -159,7 +161,7 @@ fn outcome_of(
     }
 }
 
-/// An outcome where what a run has left is kept; otherwise that of a host that failed.
+/// Returns an outcome if the folder was closed, otherwise that of a host that failed.
 fn kept_outcome(
     outcome: Outcome,
     pending: bool,

@@ -6,36 +6,52 @@ use pv_folder::OpenFault;
 use pv_image::ImageFault;
 use pv_path::Bytes;
 
-/// How a run ended.
+/// How a run ended, and with it what was written.
+///
+/// In `Done`, `ConfigInvalid`, `NotCarriedOut` and `NoFreeId`, all messages of the run were written, and then the image
+/// of the tree that it left. In `Stopped`, the messages are those until the stop, and the image is that of the tree
+/// then. A run on a folder leaves its tree there, and writes the messages alone.
 #[derive(Drop)]
 pub enum Outcome {
     /// All that was asked for was done.
     Done,
-    /// A line of the configuration was refused; all others were done.
+    /// A line of the configuration could not be read, and was left out. All others were carried out.
     ConfigInvalid,
-    /// Something that was asked for could not be carried out.
+    /// Something could not be carried out. A line was refused, a removal is unfinished, an account file cannot be used,
+    /// or a configuration file that the words name was not found.
     NotCarriedOut,
-    /// The words have no meaning.
+    /// The words have no meaning. One message, `: usage`, was written.
     Usage,
-    /// The input is not an image of a tree.
+    /// The input is not an image of a tree. One message with the error was written.
     BadImage(ImageFault),
-    /// No number was left for a user or a group of this name.
+    /// No number was left for the user or the group of this name. The tree is unchanged.
     NoFreeId(Bytes),
-    /// Memory ran out; nothing was written.
+    /// Out of memory. Nothing was written. A folder may hold a part of what the run would leave.
     Memory,
-    /// The source failed; nothing was written.
+    /// The source failed. Nothing was written.
     ReadFault,
-    /// The sink failed after a prefix of the output was written.
+    /// The sink failed. A prefix of the output was written.
     WriteFault,
-    /// The run was stopped after so many steps.
+    /// The run was stopped after this number of steps, the limit of `--stop-after`.
     Stopped(u64),
-    /// The folder cannot be run on, for a fault of what is there.
+    /// The folder cannot be used, for a defect of what is there. One message with the error was written.
     BadFolder(OpenFault),
-    /// The host failed; the folder may hold a part of what the run leaves.
+    /// The host failed. The folder may hold a part of what the run would leave.
     FolderFailed,
 }
 
-/// The status with which the program ends.
+/// Returns the exit status of an outcome.
+///
+/// - 0: `Done`.
+/// - 1: `Usage` or `NoFreeId`.
+/// - 65: `ConfigInvalid`.
+/// - 66: `BadImage` or `BadFolder`.
+/// - 71: `Memory`.
+/// - 73: `NotCarriedOut`.
+/// - 74: `ReadFault`.
+/// - 75: `Stopped`.
+/// - 76: `WriteFault`.
+/// - 77: `FolderFailed`.
 pub fn status(outcome: &Outcome) -> u8
     ensures { result ≡ status_of outcome.now }
 {

@@ -19,20 +19,23 @@ use pv_text::Messages;
 use pv_words::Options;
 use std::alloc::{AllocError, Global};
 
-/// A phase of a run (systemd-tmpfiles(8)).
+/// A phase of a run of systemd-tmpfiles (systemd-tmpfiles(8)).
 #[derive(Clone, Copy)]
 pub enum Phase {
-    /// What lines r, R and D name is taken away.
+    /// Removes what the lines r, R and D name (`--remove`).
     Remove,
-    /// What is old is taken away.
+    /// Removes what is older than the age of its directory (`--clean`).
     Clean,
-    /// Lines make and adjust what they name.
+    /// Makes, copies and adjusts what lines name (`--create`).
     Create,
-    /// What lines with `$` name is taken away.
+    /// Removes what lines with `$` name (`--purge`).
     Purge,
 }
 
-/// The phases that options ask for, in their order; a report has none.
+/// Returns the phases that the options ask for, in the order in which they are done: Remove, Clean, Create, Purge.
+///
+/// A report has no phases. The only error is `AllocError`. For example, the options `--create --remove` give Remove and
+/// then Create.
 pub fn phases_of(alloc: Global, options: &Options) -> Result<Vec<Phase>, AllocError>
     ensures { IfOk result (λ phases. phases.items ≡ phases_of options.entry.now) }
 {
@@ -47,7 +50,7 @@ pub fn phases_of(alloc: Global, options: &Options) -> Result<Vec<Phase>, AllocEr
     Ok(phases)
 }
 
-/// Adds a phase, if it is asked for.
+/// Adds a phase if it is asked for.
 fn add_phase(phases: &mut Vec<Phase>, wanted: bool, phase: Phase) -> Result<(), AllocError>
     ensures { OnOk result (phases.new.items ≡ phases.old.items ++ asked wanted phase) }
 {
@@ -57,14 +60,31 @@ fn add_phase(phases: &mut Vec<Phase>, wanted: bool, phase: Phase) -> Result<(), 
     Ok(())
 }
 
-/// Whether phases are those of the boot command.
+/// Returns whether phases are those of the boot command.
 fn is_boot(phases: &[Phase]) -> bool
     ensures { result ≡ is_boot phases.now }
 {
     matches!(phases, [Phase::Remove, Phase::Create])
 }
 
-/// Carries out phases one after the other, each over the tree that those before it leave.
+/// Carries out the phases of a list in its order, each over the tree that the phases before it leave
+/// (systemd-tmpfiles(8)).
+///
+/// - `table` has the active lines.
+/// - `now` is the time of all phases, in microseconds since 1970-01-01 UTC.
+/// - `messages` gets the messages of the phases, after those that it has.
+///
+/// The answer is one of these:
+///
+/// - `Ok(Whole)`: everything was carried out. `Ok(NotCarriedOut)`: in some phase, something was not.
+/// - `Err(Failed)`: the tree refused a step, and none was done after it.
+/// - `Err(Memory)`: out of memory.
+///
+/// After an error, the phases before the one that met the error are finished, and those after it have not begun. A
+/// prefix of the messages was added.
+///
+/// The boot command (Remove, then Create), and Remove, Create or Purge alone are crash-safe under the premises of
+/// [`boot_run`] and of the calls for one phase. For other lists of phases, nothing is promised about a rerun.
 pub fn run_phases<T: Tree>(
     alloc: Global,
     tree: &mut T,
@@ -84,8 +104,8 @@ pub fn run_phases<T: Tree>(
     ensures acted { Acted T.Tree (Partway (phases_course table.now now) phases.now (T.state tree.old))
         (IsStepOfSome (phases_course table.now now) phases.now (T.state tree.old))
         (taken_by_each (phases_course table.now now).whole phases.now (T.state tree.old)) now tree.old tree.new result }
-    // Where it was cut short, the phases before the one at work have done all their steps and said all that is said in
-    // them, and those after it nothing; so it is with the lines of creating.
+    // If the run was cut short, the phases before the unfinished one have done all their steps and given all their
+    // messages. Those after it have done nothing. The same holds of the lines of creating.
     ensures went { HasGone T.Tree (Cut (phases_course table.now now) now (refused result) phases.now (T.state tree.old))
         now tree.old tree.new messages.old messages.new }
     ensures recovers { RecoversBy phases.now table.now now (T.state tree.old) (steps_done T.Tree tree.old tree.new) }
@@ -106,7 +126,7 @@ pub fn run_phases<T: Tree>(
     Ok(carried)
 }
 
-/// Carries out a phase.
+/// Carries out one phase.
 fn do_phase<T: Tree>(
     alloc: Global,
     tree: &mut T,

@@ -11,8 +11,8 @@ use pv_text::{Facts, Messages, say_all};
 use pv_words::Options;
 use std::alloc::{AllocError, Global};
 
-/// Reads the configuration of a tree and reports on all its lines, active or not: which of them share a path, and which
-/// have a hazard.
+/// Reads the configuration of a tree, and reports on all its lines, active or not: which of them share a path, and
+/// which have a hazard.
 pub(crate) fn report_run<T: Tree>(
     alloc: Global,
     options: &Options,

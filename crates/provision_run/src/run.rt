@@ -1,4 +1,4 @@
-//! A run over any tree, by what its options ask for.
+//! A run over any tree, as its options ask.
 ghost use Rattle.std.specs.Prelude.{◌≡◌, OnOk, IfOk, IsErrOf};
 ghost use Rattle.pv_steps.specs.declared.tree.TreeFault.TheVariants.{Failed};
 ghost use Rattle.pv_steps.specs.Acting.{Acted, steps_done};
@@ -19,9 +19,27 @@ use pv_text::{Facts, Messages};
 use pv_words::Options;
 use std::alloc::Global;
 
-/// Reads the configuration of a tree and does what the options ask for. For systemd-tmpfiles(8) these are the phases of
-/// removing, cleaning and creating, in this order, or purging alone. A report and the explanation of a path do no step.
-/// For systemd-sysusers(8) it makes the users and groups.
+/// Reads the configuration of a tree and does what the options ask for.
+///
+/// For systemd-tmpfiles(8) these are the phases removing, cleaning and creating, in this order, or purging alone. A
+/// report and the explanation of a path do no step. For systemd-sysusers(8) it makes users and groups.
+///
+/// - `facts` has the values of specifiers, such as that of `%m`.
+/// - `moment` is the time of the run, in microseconds since 1970-01-01 UTC.
+/// - `messages` gets the messages on reading the configuration, and then those of the task.
+/// - The limit `--stop-after` and the time `--now` of the options are not used here.
+///
+/// The answer is one of these:
+///
+/// - `Ok(end)`: the run is complete, and `end` says whether everything was carried out.
+/// - `Err(Failed)`: the tree refused a step, and none was done after it. The configuration was read. What comes before
+///   the phase or line that met the error is finished, and what comes after it has not begun.
+/// - `Err(Memory)`: out of memory.
+///
+/// After an error, the messages that were added are a prefix of those of a complete run.
+///
+/// A stopped run of one phase other than cleaning, of the boot command or of accounts recovers, under premises on
+/// hazards and refused lines. This holds even if the second run reads its lines from the tree that was left.
 pub fn run_on_tree<T: Tree>(
     alloc: Global,
     options: &Options,
@@ -30,17 +48,18 @@ pub fn run_on_tree<T: Tree>(
     tree: &mut T,
     messages: &mut Messages,
 ) -> Result<RunEnd, TreeFault>
-    // What a complete run leaves, timestamps and staging names included, what it says and how it ends.
+    // The tree that a complete run leaves, timestamps and staging names included, its messages and its answer.
     ensures ok { OnOk result (T.state tree.new ≡ final options.entry.now facts.now moment (T.state tree.old)) }
     ensures new_messages { OnOk result (HasMessagesBy (task_of options.entry.now) options.entry.now facts.now moment (T.state tree.old) messages.old messages.new) }
     ensures end { IfOk result (λ end. end ≡ run_end options.entry.now facts.now moment (T.state tree.old)) }
     // Nothing is left at the staging names of what it made, whatever earlier runs have left there.
     ensures staged { OnOk result (IsSweptIn (task_of options.entry.now) options.entry.now facts.now moment (T.state tree.old) (T.state tree.new)) }
 
-    // What any run has said and done, whatever it answers.
+    // The messages and steps of every run, whatever the answer.
     ensures part { HasMessagesPartBy (task_of options.entry.now) options.entry.now facts.now moment (T.state tree.old) messages.old messages.new }
-    // Where a step was refused, the configuration was read and all was said of it; the phases and the lines before the one
-    // at work have done and said all, those after it nothing. So it is where it answers Ok, with no step refused.
+    // If a step was refused, the configuration was read and all its messages were added. The phases and the lines
+    // before the unfinished one are finished, and those after it have not begun. The same holds for Ok, with no step
+    // refused.
     ensures read { IsErrOf result Failed → HasGoneBy (task_of options.entry.now) options.entry.now facts.now moment 1 (T.state tree.old)
         (steps_done T.Tree tree.old tree.new) messages.old messages.new }
     ensures in_turn { OnOk result (HasGoneBy (task_of options.entry.now) options.entry.now facts.now moment 0 (T.state tree.old)
@@ -54,14 +73,14 @@ pub fn run_on_tree<T: Tree>(
     // Crash safety of a run of one phase, of the boot command, and of a run that makes accounts.
     ensures recovers { RecoversIn (task_of options.entry.now) options.entry.now facts.now moment (T.state tree.old)
         (steps_done T.Tree tree.old tree.new) }
-    // Crash safety where the second run reads its lines anew of the tree that was left.
+    // Crash safety if the second run reads its lines from the tree that was left.
     ensures anew { RecoversAnewIn (task_of options.entry.now) options.entry.now facts.now moment (T.state tree.old)
         (steps_done T.Tree tree.old tree.new) }
 
-    // What it has left as it was at each moment, whatever it answers.
+    // What is as it was at each moment, whatever the answer.
     ensures framed { IsFramedIn (task_of options.entry.now) options.entry.now facts.now moment (T.state tree.old)
         (steps_done T.Tree tree.old tree.new) }
-    // What creating has left on its way, alone or in the boot command, and what each step gives.
+    // What creating, alone or in the boot command, leaves at each moment, and what each step gives.
     ensures between { IsOnTheWayIn (task_of options.entry.now) options.entry.now facts.now moment (T.state tree.old)
         (steps_done T.Tree tree.old tree.new) }
 {

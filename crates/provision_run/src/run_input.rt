@@ -15,19 +15,19 @@ use pv_text::{Facts, Messages};
 use pv_words::Options;
 use std::alloc::{AllocError, Global};
 
-/// What a run reads.
+/// What a run of systemd-tmpfiles reads.
 #[derive(Drop)]
 pub(crate) struct RunTable {
     /// The active lines.
     pub table: Table,
-    /// Whether a line was refused.
+    /// Whether a line could not be read.
     pub invalid: bool,
-    /// Whether a file word was not found.
+    /// Whether a configuration file that the words name was not found.
     pub missing: bool,
 }
 
-/// Reads the configuration of a tree. Says of each line that makes the object at the path of an earlier one that it is
-/// a duplicate.
+/// Reads the configuration of a tree. A line that makes the object at the path of an earlier one gives the message that
+/// it is a duplicate.
 pub(crate) fn read_run<T: Tree>(
     alloc: Global,
     options: &Options,
@@ -51,7 +51,7 @@ pub(crate) fn read_run<T: Tree>(
     })
 }
 
-/// The active lines, by the filters of the options.
+/// Returns the active lines, by the filters of the options.
 fn build_active(
     alloc: Global,
     lines: LineList,

@@ -1,4 +1,4 @@
-//! A run over any tree, which is stopped at the limit of its options.
+//! A run over any tree, which stops at the limit of its options.
 ghost use Rattle.std.specs.Prelude.{◌≡◌, [], IfOk, IsErrOf};
 ghost use Rattle.pv_steps.specs.Counting.{refused, faults_after};
 ghost use Rattle.pv_steps.specs.declared.tree.TreeFault.TheVariants.{Failed};
@@ -15,7 +15,7 @@ use pv_tree::Fused;
 use pv_words::Options;
 use std::alloc::Global;
 
-/// Runs over a tree, and stops where a step more than the limit of the options would be done.
+/// Runs over a tree, and stops before the first step that the limit of the options does not allow.
 pub(crate) fn run_limited<T: Tree>(
     alloc: Global,
     options: &Options,
@@ -28,13 +28,13 @@ pub(crate) fn run_limited<T: Tree>(
     requires messages_kept { messages.old ≡ [] }
     ensures run { IfOk result (λ found. HasRunBy options.entry.now facts.now moment (T.state tree.old) found messages.new (T.state tree.new) (T.steps tree.new)) }
 
-    // A step failed, and not for the limit.
+    // A step failed, and not because of the limit.
     ensures failed { IsErrOf result Failed → HasFailedBy options.entry.now facts.now moment (T.state tree.old) messages.new (T.state tree.new) (T.steps tree.new) }
 
-    // Whatever it answered, steps of it lead to the tree that it has left.
+    // Whatever the answer, steps of the run lead to the tree that is left.
     ensures left { HasLeftBy options.entry.now facts.now moment (T.state tree.old) (T.state tree.new) (T.steps tree.new) }
 
-    // It counted one fault where a step failed so, otherwise none.
+    // The tree counted one error if a step failed so, otherwise none.
     ensures counted { T.faults tree.new ≡ faults_after (refused result) (T.faults tree.old) }
 
     ensures reaches { T.reaches tree.old tree.new }
@@ -53,7 +53,7 @@ pub(crate) fn run_limited<T: Tree>(
     }
 }
 
-/// The outcome of a run that was not stopped.
+/// Returns the outcome of a run that was not stopped.
 fn outcome_of(end: RunEnd) -> Outcome
     ensures { result ≡ outcome_of end }
 {

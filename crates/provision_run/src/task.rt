@@ -1,24 +1,24 @@
-//! What a run is asked for.
+//! What the options of a run ask for.
 ghost use Rattle.std.specs.Prelude.{◌≡◌};
 ghost use Rattle.provision_run.specs.Tasks.{task_of};
 
 use pv_text::Tool;
 use pv_words::Options;
 
-/// What a run is asked for.
+/// What the options of a run ask for.
 #[derive(Clone, Copy)]
 pub(crate) enum Task {
-    /// Lines are carried out in phases (systemd-tmpfiles(8)).
+    /// Phases in which lines are carried out (systemd-tmpfiles(8)).
     Phases,
-    /// Lines are reported, and no step is done.
+    /// A report on the lines. No step is done.
     Report,
-    /// A path is explained, and no step is done.
+    /// The explanation of a path. No step is done.
     Explain,
-    /// Users and groups are made (systemd-sysusers(8)).
+    /// Users and groups (systemd-sysusers(8)).
     Accounts,
 }
 
-/// What options ask for.
+/// Returns what options ask for.
 pub(crate) fn task_of(options: &Options) -> Task
     ensures { result ≡ task_of options.entry.now }
 {

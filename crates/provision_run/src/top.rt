@@ -1,4 +1,4 @@
-//! The top call: words, clock, source and sink.
+//! The top calls: from the words of a command, a clock, a source and a sink to an outcome.
 ghost use Rattle.std.specs.Prelude.{◌≡◌, ◌⊎◌, ℕ, None, Some, true, false, is_some, map, string_bytes, IfSome};
 ghost use Rattle.pv_io.specs.Faults.{HasRisen};
 ghost use Rattle.pv_words.specs.Invocation.{parse_args};
@@ -16,10 +16,23 @@ use pv_io::{Sink, Source, write_all_of};
 use pv_words::{Rooted, WordsFault, rooted_of};
 use std::alloc::Global;
 
-/// Runs the program over an image (systemd-tmpfiles(8), systemd-sysusers(8)). It reads the image from the source and
-/// carries out what the words ask for at the moment of the clock. It then writes the messages and the image of the tree
-/// to the sink. For the words `generate SEED COUNT` it runs over a generated tree in place of the source's, and writes
-/// three messages.
+/// Runs the program over an image (systemd-tmpfiles(8), systemd-sysusers(8)). It reads the image from the source, and
+/// writes the messages and the image of the new tree to the sink.
+///
+/// - `words` are the arguments of the command without the program's name. The first one names the tool.
+/// - `clock_micros` is the time of the run, in microseconds since 1970-01-01 UTC. The option `--now` replaces it.
+/// - `source` has the image. More than 64 MiB are not accepted: this is `BadImage` with the error `TooLong`.
+/// - `sink` gets one line for each message, and then the image.
+///
+/// [`Outcome`] says what was done and written in each case. `Usage` comes only for words without a meaning, and for
+/// such words the source is not read. `ReadFault` comes only if the source has counted an error, and `WriteFault` only
+/// if the sink has. The outcome is never one about a folder.
+///
+/// The words `generate SEED COUNT` ask for a run of creating over a generated tree. Then the source is not read, and
+/// three messages are written, but no image.
+///
+/// For example, the words `systemd-tmpfiles --create` over an image with the line `d /run/app` write an image that has
+/// the directory `/run/app`.
 pub fn provision<S: Source, K: Sink>(
     alloc: Global,
     words: &[String],
@@ -27,25 +40,26 @@ pub fn provision<S: Source, K: Sink>(
     source: &mut S,
     sink: &mut K,
 ) -> Outcome
-    // Over a source that tells its bytes: what was written belongs to the words, the clock, the input and the outcome.
+    // If the bytes of the source are known: what was written belongs to the words, the clock, the input and the
+    // outcome.
     ensures written { IfSome (S.left source.old)
         (λ input. HasWritten (map string_bytes words.now) clock_micros input result (K.written sink.old) (K.written sink.new)) }
 
-    // Usage comes exactly for words without a meaning, and then the source is not read.
+    // Usage comes only for words without a meaning. For such words the source is not read.
     ensures usage { result ≡ Outcome.Usage → parse_args (map string_bytes words.now) ≡ None }
     ensures known { parse_args (map string_bytes words.now) ≡ None →
         (result ≡ Outcome.Usage) ⊎ ((result ≡ Outcome.WriteFault) ⊎ (result ≡ Outcome.Memory)) }
     ensures unread { parse_args (map string_bytes words.now) ≡ None → source.new ≡ source.old }
 
-    // Words that ask for a run over a generated tree: its messages are written, whatever the source, which is not read.
+    // Words that ask for a run over a generated tree: its messages are written, and the source is not read.
     ensures generated { (seed count : ℕ) → parse_args (map string_bytes words.now) ≡ Some (Generate seed count) →
         HasWrittenGenerated seed count result (K.written sink.old) (K.written sink.new) }
     ensures input_unread { (seed count : ℕ) → parse_args (map string_bytes words.now) ≡ Some (Generate seed count) → source.new ≡ source.old }
 
-    // It is on no folder.
+    // The outcome is never one about a folder.
     ensures unfolded { is_of_folder result ≡ false }
 
-    // The two ends are blamed only if their counts of faults rose.
+    // The source and the sink are blamed only if their counts of errors rose.
     ensures read_fault { result ≡ Outcome.ReadFault → HasRisen (S.faults source.old) (S.faults source.new) }
     ensures write_fault { result ≡ Outcome.WriteFault → HasRisen (K.faults sink.old) (K.faults sink.new) }
 {
@@ -59,8 +73,17 @@ pub fn provision<S: Source, K: Sink>(
     }
 }
 
-/// Runs the program. If the words name a folder by `--root`, it runs on this folder of the host, and writes the
-/// messages alone. Otherwise it does as [`provision`] does, and does not ask the host.
+/// Runs the program over an image or, if the words name a folder by `--root=FOLDER`, over this folder of the host.
+///
+/// Without such a word it does as [`provision`] does, and the host is not called.
+///
+/// With a folder the source is not read, and only the messages are written. The tree of the run is that of the
+/// directory `tree` in the folder, together with the manifest. Each step of the run makes at most one change on the
+/// host. Then two changes write the manifest, even after a failed step. They may be missing if the host fails or memory
+/// runs out. The run makes no other changes on the host.
+///
+/// The parameters are those of [`provision`], and `host` has the folder. `BadFolder` and `FolderFailed` come only if
+/// the words name a folder. `FolderFailed` comes only if the host has counted an error.
 pub fn provision_all<S: Source, K: Sink, H: Host>(
     alloc: Global,
     words: &[String],
@@ -69,8 +92,8 @@ pub fn provision_all<S: Source, K: Sink, H: Host>(
     sink: &mut K,
     host: &mut H,
 ) -> Outcome
-    // Words with a folder: what was written, and what the host then holds, belong to the folder, the other words, the clock, the
-    // outcome, and what the host held.
+    // Words with a folder: what was written, and what the host then holds, belong to the folder, the other words, the
+    // clock, the outcome, and what the host held.
     ensures on_folder { IfSome (rooted_of (map string_bytes words.now)) (λ rooted.
         HasWrittenOn (spelled rooted.folder) rooted.options clock_micros
         (record { content = H.content host.old; changes = H.changes host.old; faults = H.faults host.old })
@@ -78,11 +101,11 @@ pub fn provision_all<S: Source, K: Sink, H: Host>(
         result (K.written sink.old) (K.written sink.new)) }
     ensures source_unread { is_some (rooted_of (map string_bytes words.now)) ≡ true → source.new ≡ source.old }
 
-    // The host is blamed only if its count of faults rose, and only of words with a folder.
+    // The host is blamed only if its count of errors rose. An outcome about a folder comes only for words with one.
     ensures folder_failed { result ≡ Outcome.FolderFailed → HasRisen (H.faults host.old) (H.faults host.new) }
     ensures rooted { is_of_folder result ≡ true → is_some (rooted_of (map string_bytes words.now)) ≡ true }
 
-    // Other words: all that `provision` says, and the host is not asked.
+    // Other words: all that `provision` says, and the host is not called.
     ensures host_unused { rooted_of (map string_bytes words.now) ≡ None → host.new ≡ host.old }
     ensures written { rooted_of (map string_bytes words.now) ≡ None → IfSome (S.left source.old)
         (λ input. HasWritten (map string_bytes words.now) clock_micros input result (K.written sink.old) (K.written sink.new)) }
@@ -94,7 +117,7 @@ pub fn provision_all<S: Source, K: Sink, H: Host>(
         HasWrittenGenerated seed count result (K.written sink.old) (K.written sink.new) }
     ensures input_unread { (seed count : ℕ) → parse_args (map string_bytes words.now) ≡ Some (Generate seed count) → source.new ≡ source.old }
 
-    // The two ends are blamed only if their counts of faults rose.
+    // The source and the sink are blamed only if their counts of errors rose.
     ensures read_fault { result ≡ Outcome.ReadFault → HasRisen (S.faults source.old) (S.faults source.new) }
     ensures write_fault { result ≡ Outcome.WriteFault → HasRisen (K.faults sink.old) (K.faults sink.new) }
 {
@@ -105,7 +128,7 @@ pub fn provision_all<S: Source, K: Sink, H: Host>(
     }
 }
 
-/// Runs on the folder that words name.
+/// Runs on the folder that the words name.
 fn provision_on<K: Sink, H: Host>(
     alloc: Global,
     rooted: &Rooted,

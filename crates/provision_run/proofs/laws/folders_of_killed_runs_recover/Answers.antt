@@ -1,4 +1,4 @@
-use Rattle.provision_run.proofs.KillMending.{killed_back, killed_said}
+use Rattle.provision_run.proofs.KillRecovery.{killed_back, killed_said}
 use Rattle.provision_run.proofs.laws.folders_of_killed_runs_recover.Goals as goal
 
 pub returns-clause-merged_back : goal.returns-clause-merged_back

@@ -13,7 +13,7 @@ pub returns-clause-answer : goal.returns-clause-answer
 returns-clause-answer g c =
     let old = c.args.tree.now in
     let mid = c.run_limited-ran.new.tree in
-    kept_answer (spelled old.folder.items) c.args.options.now c.args.clock (told g.H.Host.content g.H.Host.changes g.H.Host.faults old.host.now) (told g.H.Host.content g.H.Host.changes g.H.Host.faults c.close_folder-closed.new.tree.host.now)
+    kept_answer (spelled old.folder.items) c.args.options.now c.args.clock_micros (told g.H.Host.content g.H.Host.changes g.H.Host.faults old.host.now) (told g.H.Host.content g.H.Host.changes g.H.Host.faults c.close_folder-closed.new.tree.host.now)
     c.args.facts.now old.tree.files mid.tree.files c.unwrap_or-moment.result c.run_limited-ran.result c.is_pending-pending.result c.close_folder-closed.result c.run_limited-ran.new.messages
     (spelled mid.folder.items) (g.H.Host.content mid.host.now) (g.H.Host.changes mid.host.now) (g.H.Host.faults mid.host.now) old.pending mid.pending old.tree.steps mid.tree.steps c.requires.fresh
     c.unwrap_or-moment.ensures (old.tree.tree, c.requires.opened) c.run_limited-ran.ensures.run c.run_limited-ran.ensures.failed c.run_limited-ran.ensures.left c.run_limited-ran.ensures.counted
@@ -25,7 +25,7 @@ pub returns-clause-short : goal.returns-clause-short
 returns-clause-short g c =
     let old = c.args.tree.now in
     let mid = c.run_limited-ran.new.tree in
-    kept_less (spelled old.folder.items) c.args.options.now c.args.clock (told g.H.Host.content g.H.Host.changes g.H.Host.faults old.host.now) (told g.H.Host.content g.H.Host.changes g.H.Host.faults c.close_folder-closed.new.tree.host.now)
+    kept_less (spelled old.folder.items) c.args.options.now c.args.clock_micros (told g.H.Host.content g.H.Host.changes g.H.Host.faults old.host.now) (told g.H.Host.content g.H.Host.changes g.H.Host.faults c.close_folder-closed.new.tree.host.now)
     c.args.facts.now old.tree.files mid.tree.files c.unwrap_or-moment.result c.run_limited-ran.result c.is_pending-pending.result c.close_folder-closed.result c.run_limited-ran.new.messages
     (spelled mid.folder.items) (g.H.Host.content mid.host.now) (g.H.Host.changes mid.host.now) (g.H.Host.faults mid.host.now) old.pending mid.pending old.tree.steps mid.tree.steps c.requires.fresh
     c.unwrap_or-moment.ensures (old.tree.tree, c.requires.opened) c.run_limited-ran.ensures.run c.run_limited-ran.ensures.failed c.run_limited-ran.ensures.left c.run_limited-ran.ensures.counted
@@ -41,7 +41,7 @@ returns-clause-closed g c = λ in_run.
     subst (λ (t : Files). IfSome new.content (λ (x : Content). held x (manifest_path (spelled old.folder.items)) ≡ Some (File (manifest_of c.args.facts.now t)))
     ⊎ HasRisen (g.H.Host.faults old.host.now) new.faults)
     (sym (ap (λ (t : Held). t.files) c.close_folder-closed.ensures.tree))
-    (closed_less (spelled old.folder.items) c.args.options.now c.args.clock (told g.H.Host.content g.H.Host.changes g.H.Host.faults old.host.now) (told g.H.Host.content g.H.Host.changes g.H.Host.faults c.close_folder-closed.new.tree.host.now)
+    (closed_less (spelled old.folder.items) c.args.options.now c.args.clock_micros (told g.H.Host.content g.H.Host.changes g.H.Host.faults old.host.now) (told g.H.Host.content g.H.Host.changes g.H.Host.faults c.close_folder-closed.new.tree.host.now)
     c.args.facts.now old.tree.files mid.tree.files c.unwrap_or-moment.result c.run_limited-ran.result c.is_pending-pending.result c.close_folder-closed.result c.run_limited-ran.new.messages
     (spelled mid.folder.items) (g.H.Host.content mid.host.now) (g.H.Host.changes mid.host.now) (g.H.Host.faults mid.host.now) old.pending mid.pending old.tree.steps mid.tree.steps c.requires.fresh
     c.unwrap_or-moment.ensures (old.tree.tree, c.requires.opened) c.run_limited-ran.ensures.run c.run_limited-ran.ensures.failed c.run_limited-ran.ensures.left c.run_limited-ran.ensures.counted

@@ -8,7 +8,7 @@ returns-in-Ok-clause-output g c =
     let tree = c.of-tree.result in
     let left = c.run_kept-ran.new.tree.host.now in
     let last : left ≡ c.host-1.given.0 = search rules in
-    told_output c.args.rooted.now.options c.args.clock (spelled tree.folder.items) (spelled c.args.rooted.now.folder)
+    told_output c.args.rooted.now.options c.args.clock_micros (spelled tree.folder.items) (spelled c.args.rooted.now.folder)
     (told g.H.Host.content g.H.Host.changes g.H.Host.faults tree.host.now) (told g.H.Host.content g.H.Host.changes g.H.Host.faults c.args.host.now)
     (told g.H.Host.content g.H.Host.changes g.H.Host.faults left) (told g.H.Host.content g.H.Host.changes g.H.Host.faults c.host-1.given.0)
     (ap (λ v. spelled v.items) c.of-tree.ensures.folder ∙ ap spelled (c.in_ok-folder.ensures.items ∙ c.as_slice.ensures))
@@ -21,7 +21,7 @@ returns-in-Ok-clause-short g c =
     let tree = c.of-tree.result in
     let left = c.run_kept-ran.new.tree.host.now in
     let last : left ≡ c.host-1.given.0 = search rules in
-    told_short c.args.rooted.now.options c.args.clock (spelled tree.folder.items) (spelled c.args.rooted.now.folder)
+    told_short c.args.rooted.now.options c.args.clock_micros (spelled tree.folder.items) (spelled c.args.rooted.now.folder)
     (told g.H.Host.content g.H.Host.changes g.H.Host.faults tree.host.now) (told g.H.Host.content g.H.Host.changes g.H.Host.faults c.args.host.now)
     (told g.H.Host.content g.H.Host.changes g.H.Host.faults left) (told g.H.Host.content g.H.Host.changes g.H.Host.faults c.host-1.given.0)
     (ap (λ v. spelled v.items) c.of-tree.ensures.folder ∙ ap spelled (c.in_ok-folder.ensures.items ∙ c.as_slice.ensures))
@@ -33,7 +33,7 @@ returns-clause-short g c =
     let tree = c.of-tree.result in
     let left = c.run_kept-ran.new.tree.host.now in
     let last : left ≡ c.host-1.given.0 = search rules in
-    here_short c.args.rooted.now.options c.args.clock (spelled tree.folder.items) (spelled c.args.rooted.now.folder)
+    here_short c.args.rooted.now.options c.args.clock_micros (spelled tree.folder.items) (spelled c.args.rooted.now.folder)
     (told g.H.Host.content g.H.Host.changes g.H.Host.faults tree.host.now) (told g.H.Host.content g.H.Host.changes g.H.Host.faults c.args.host.now)
     (told g.H.Host.content g.H.Host.changes g.H.Host.faults left) (told g.H.Host.content g.H.Host.changes g.H.Host.faults c.host-1.given.0)
     (ap (λ v. spelled v.items) c.of-tree.ensures.folder ∙ ap spelled (c.in_ok-folder.ensures.items ∙ c.as_slice.ensures))

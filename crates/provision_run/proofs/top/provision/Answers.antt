@@ -13,11 +13,11 @@ returns-in-Ok-write_all_of-clause-write_fault g c = λ e. absurd (own_not_writte
 
 pub returns-in-Err-clause-written : goal.returns-in-Err-clause-written
 returns-in-Err-clause-written g c =
-    front_written (map string_bytes c.args.words.now) c.args.clock_micros (g.S.Source.left c.args.source.now) c.in-Ok.answer.outcome c.in-Ok.answer.output.items c.deref.result.now _ _ c.deref.ensures.value c.in-Ok.ensures.output c.in-Err.ensures.front
+    front_written (map string_bytes c.args.words.now) c.args.clock_micros (g.S.Source.left c.args.source.now) c.in-Ok.answer.outcome c.in-Ok.answer.output.items c.deref.result.now _ _ c.deref.ensures.value c.in-Ok.ensures.output c.in-Err.ensures.prefix
 
 pub returns-in-Err-clause-generated : goal.returns-in-Err-clause-generated
 returns-in-Err-clause-generated g c = λ seed count e.
-    generated_front (parse_args (map string_bytes c.args.words.now)) seed count e c.in-Ok.answer.outcome c.in-Ok.answer.output.items c.deref.result.now _ _ c.deref.ensures.value c.in-Ok.ensures.generated c.in-Err.ensures.front
+    generated_front (parse_args (map string_bytes c.args.words.now)) seed count e c.in-Ok.answer.outcome c.in-Ok.answer.output.items c.deref.result.now _ _ c.deref.ensures.value c.in-Ok.ensures.generated c.in-Err.ensures.prefix
 
 pub returns-in-Ok-write_all_of-clause-generated : goal.returns-in-Ok-write_all_of-clause-generated
 returns-in-Ok-write_all_of-clause-generated g c = λ seed count e.

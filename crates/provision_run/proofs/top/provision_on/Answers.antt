@@ -21,4 +21,4 @@ returns-in-Ok-write_all_of-clause-folder_failed g c =
 pub returns-in-Err-clause-written : goal.returns-in-Err-clause-written
 returns-in-Err-clause-written g c =
     folder_front (spelled c.args.rooted.now.folder) c.args.rooted.now.options c.args.clock_micros _ _ c.in-Ok.answer.outcome c.in-Ok.answer.output.items c.deref.result.now _ _
-    c.deref.ensures.value c.in-Ok.ensures.output c.in-Err.ensures.front
+    c.deref.ensures.value c.in-Ok.ensures.output c.in-Err.ensures.prefix

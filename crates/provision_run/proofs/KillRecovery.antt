@@ -1,21 +1,15 @@
 -- A run of creating on a folder that was killed is completed by a complete run, where merging gives back a tree of the run.
-use Rattle.std.specs.Prelude.{◌≡◌, ℕ, false, List, [], ◌∷◌, take, Option, Some, None, option_map, IfSome, ⊤}
-use Rattle.std.specs.List.{AllByRecursion}
+use Rattle.std.specs.Prelude.{◌≡◌, ℕ, List, [], ◌∷◌, take, Option, Some, None, option_map}
 use Rattle.std.proofs.Common.{refl, sym, ap, subst, ◌∙◌}
 use Rattle.pv_folder.specs.Content.{Content, Held, held, spelled}
-use Rattle.pv_folder.specs.Folders.{IsSameElse, manifest_path, new_manifest_path, tree_path}
 use Rattle.pv_folder.specs.Moments.{IsBetween, closed, in_closing, in_steps}
 use Rattle.pv_folder.specs.Opening.{IsOpened}
-use Rattle.pv_layers.specs.Inputs.{SameContent}
-use Rattle.pv_layers.specs.Places.{is_input}
 use Rattle.pv_laws.proofs.Moments.{created_same, quiet_same}
 use Rattle.pv_laws.proofs.Stops.{created_point}
 use Rattle.pv_laws.specs.Moments.{SameObjectStates}
-use Rattle.pv_laws.specs.Stopping.{CopiesNothing}
 use Rattle.pv_lines.specs.declared.line.Line.{Line}
-use Rattle.pv_path.specs.Paths.{Path, has_staging}
+use Rattle.pv_path.specs.Paths.{Path}
 use Rattle.pv_read_config.proofs.InputLaws.{configured-same}
-use Rattle.pv_read_config.specs.Known.{configured}
 use Rattle.pv_steps.specs.Content.{content_of}
 use Rattle.pv_steps.specs.declared.object.Object.{Object}
 use Rattle.pv_steps.specs.declared.step.Step.{Step}
@@ -23,10 +17,10 @@ use Rattle.pv_steps.specs.Doing.{after_each}
 use Rattle.pv_steps.specs.Runs.{after_all}
 use Rattle.pv_steps.specs.Same.{Same}
 use Rattle.pv_steps.specs.Trees.{Files, IsTree, places}
-use Rattle.pv_table.specs.Created.{IsQuiet, created}
+use Rattle.pv_table.specs.Created.{RefusesNoLine, created}
 use Rattle.pv_text.specs.Facts.{Values}
 use Rattle.pv_walk.proofs.OperationLaws.{object_states-same}
-use Rattle.pv_walk.specs.Nodes.{object_state_of, object_states_of}
+use Rattle.pv_walk.specs.Nodes.{object_state_of}
 use Rattle.pv_walk.specs.declared.object_state.ObjectState.{ObjectState}
 use Rattle.pv_words.specs.declared.options.Options.{Options}
 use Rattle.provision_run.specs.declared.phase.Phase.{Phase}
@@ -38,7 +32,7 @@ use Rattle.provision_run.specs.FolderStops.{AreFolders, HasEndedOn}
 use Rattle.provision_run.specs.OnFolder.{IsSameBeside}
 use Rattle.provision_run.specs.Phased.{phased, run_lines}
 use Rattle.provision_run.specs.Phases.{phases_course, phases_of}
-use Rattle.provision_run.specs.Rereading.{ArePlain, IsFinishedBy, IsQuietBy, MayRepeat}
+use Rattle.provision_run.specs.Rereading.{ArePlain, IsFinishedBy, RefusesNoLineBy, MayRepeat}
 use Rattle.provision_run.specs.Stops.{HasStopped, IsCalm, unlimited}
 use Rattle.provision_run.specs.Tasks.{task_of}
 use Rattle.provision_run.specs.Whole.{final, final_by}
@@ -66,11 +60,11 @@ module _ (options : Options) (facts : Values) (plain : ArePlain options) (v u : 
     calm_like : IsCalm options facts v → IsCalm options facts u
     calm_like calm =
         let lines = run_lines options facts v in
-        let at : IsFinishedBy (Create ∷ []) lines v × ((moment : ℕ) × IsQuietBy (Create ∷ []) lines moment v) =
-        subst (λ (phases : List Phase). IsFinishedBy phases lines v × ((moment : ℕ) × IsQuietBy phases lines moment v)) alone calm in
-        let then : IsFinishedBy (Create ∷ []) (run_lines options facts u) u × ((moment : ℕ) × IsQuietBy (Create ∷ []) (run_lines options facts u) moment u) =
-        (tt, (at.1.0, subst (λ (ls : List Line). IsQuiet ls at.1.0 u) lines_like (quiet_same lines at.1.0 at.1.0 v u same at.1.1))) in
-        subst (λ (phases : List Phase). IsFinishedBy phases (run_lines options facts u) u × ((moment : ℕ) × IsQuietBy phases (run_lines options facts u) moment u)) (sym alone) then
+        let at : IsFinishedBy (Create ∷ []) lines v × ((moment : ℕ) × RefusesNoLineBy (Create ∷ []) lines moment v) =
+        subst (λ (phases : List Phase). IsFinishedBy phases lines v × ((moment : ℕ) × RefusesNoLineBy phases lines moment v)) alone calm in
+        let then : IsFinishedBy (Create ∷ []) (run_lines options facts u) u × ((moment : ℕ) × RefusesNoLineBy (Create ∷ []) (run_lines options facts u) moment u) =
+        (tt, (at.1.0, subst (λ (ls : List Line). RefusesNoLine ls at.1.0 u) lines_like (quiet_same lines at.1.0 at.1.0 v u same at.1.1))) in
+        subst (λ (phases : List Phase). IsFinishedBy phases (run_lines options facts u) u × ((moment : ℕ) × RefusesNoLineBy phases (run_lines options facts u) moment u)) (sym alone) then
 
     phased_like : (now : ℕ) → Same (phased options facts now v) (phased options facts now u)
     phased_like now =
@@ -92,7 +86,7 @@ module _ (options : Options) (folder : Path) (moment : ℕ) (old new : Content) 
   beside_killed =
       let killed = run.killed in
       subst (λ (f : Path). IsSameBeside f (held old) (held new)) run.like.named
-      (beside_between (spelled run.like.own.folder) killed.tree killed.asked (moment_of run.like.own.options run.clock) killed.text (held old) (held new) killed.between)
+      (beside_between (spelled run.like.own.folder) killed.tree killed.asked (moment_of run.like.own.options run.clock_micros) killed.text (held old) (held new) killed.between)
 
   module _ (first later : ℕ) (one again : Content) (opens : IsOpened folder new facts v) (whole : HasEndedOn options folder first old one) (second : HasEndedOn options folder later new again)
       (is : task_of options ≡ Phases) where
@@ -122,10 +116,10 @@ module _ (options : Options) (folder : Path) (moment : ℕ) (old new : Content) 
           let there = opened_once folder old facts t opened killed.facts killed.tree
           (subst (λ (f : Path). IsOpened f old killed.facts killed.tree) run.like.named killed.opened) in
           subst (λ (now : ℕ). IsAsStopped facts t now) (sym run.like.when)
-          (subst (λ (s : Files). IsAsStopped facts s (moment_of run.like.own.options run.clock)) there.1
-          (subst (λ (f : Values). IsAsStopped f killed.tree (moment_of run.like.own.options run.clock)) there.0 (
-            after_all killed.tree (take back.0 killed.gone.steps) (moment_of run.like.own.options run.clock),
-            (broken_at options run.like.own.options run.like.alike killed.facts (moment_of run.like.own.options run.clock) killed.tree killed.left killed.gone back.0, back.1),
+          (subst (λ (s : Files). IsAsStopped facts s (moment_of run.like.own.options run.clock_micros)) there.1
+          (subst (λ (f : Values). IsAsStopped f killed.tree (moment_of run.like.own.options run.clock_micros)) there.0 (
+            after_all killed.tree (take back.0 killed.gone.steps) (moment_of run.like.own.options run.clock_micros),
+            (broken_at options run.like.own.options run.like.alike killed.facts (moment_of run.like.own.options run.clock_micros) killed.tree killed.left killed.gone back.0, back.1),
           )))
 
       pub killed_back : phases_of options ≡ Create ∷ [] → ArePlain options → MayRepeat (phases_of options) (run_lines options facts t)
@@ -146,18 +140,18 @@ module _ (options : Options) (folder : Path) (moment : ℕ) (old new : Content) 
     tree_then = subst IsTree (whole_same options folder facts v new again (opened_once folder new facts v opens) later second).1 second.run.opened.0
 
     -- a run of creating is quiet at any moment
-    quiet_at : (lines : List Line) (u : Files) → phases_of options ≡ Create ∷ [] → (now : ℕ) → (IsFinishedBy (phases_of options) lines u × ((m : ℕ) × IsQuietBy (phases_of options) lines m u)) → IsQuiet lines now u
+    quiet_at : (lines : List Line) (u : Files) → phases_of options ≡ Create ∷ [] → (now : ℕ) → (IsFinishedBy (phases_of options) lines u × ((m : ℕ) × RefusesNoLineBy (phases_of options) lines m u)) → RefusesNoLine lines now u
     quiet_at lines u alone now calm =
-        let at : IsFinishedBy (Create ∷ []) lines u × ((m : ℕ) × IsQuietBy (Create ∷ []) lines m u) =
-        subst (λ (phases : List Phase). IsFinishedBy phases lines u × ((m : ℕ) × IsQuietBy phases lines m u)) alone calm in
+        let at : IsFinishedBy (Create ∷ []) lines u × ((m : ℕ) × RefusesNoLineBy (Create ∷ []) lines m u) =
+        subst (λ (phases : List Phase). IsFinishedBy phases lines u × ((m : ℕ) × RefusesNoLineBy phases lines m u)) alone calm in
         quiet_same lines at.1.0 now u u (λ q. refl) at.1.1
 
     pub killed_said : phases_of options ≡ Create ∷ [] → run_lines options facts v ≡ run_lines options facts t
         → SayAll (run_lines options facts t) t v → IsCalm options facts t → IsCalm options facts v → AreFolders (λ one two. Same two one) folder old one again
     killed_said alone same says calm still =
         let lines = run_lines options facts t in
-        let quiet_then : IsQuiet lines later v =
-        subst (λ (ls : List Line). IsQuiet ls later v) same (quiet_at (run_lines options facts v) v alone later still) in
+        let quiet_then : RefusesNoLine lines later v =
+        subst (λ (ls : List Line). RefusesNoLine ls later v) same (quiet_at (run_lines options facts v) v alone later still) in
         let holds : Same (created lines later v) (created lines first t) = λ q out.
         object_states-same (places (created lines later v)) (places (created lines first t)) q
         (created_point lines says.are_lines says.copy_nothing later v tree_then quiet_then q out
