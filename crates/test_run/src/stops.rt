@@ -128,7 +128,7 @@ fn last_line(input: &[u8]) -> usize {
     input.split(|byte| *byte == b'\n').count()
 }
 
-/// How many front parts of an input are too short, each told to be so at the line in which it ends.
+/// Counts the prefixes of an input that are refused as truncated, each at the line in which it ends.
 pub(crate) fn cuts(alloc: Global, words: &str, input: &[u8]) -> Result<String, AllocError> {
     let mut count = 0usize;
     for end in 0..input.len() {
