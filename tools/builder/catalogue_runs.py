@@ -93,7 +93,7 @@ CONFIGURATION = Section(
 REFUSED = Section(
     "Lines that are refused",
     "The line was not carried out at this path. All others were. If its type has the modifier `-`, a refusal in "
-    "creating does not change the status. Permission bits are not checked.",
+    "creating does not change the status. The permission bits of the directories above are not checked.",
     (
         Message("Link", AT_LINE + "PATH refused at PLACE: link", "{place} is a symbolic link, so {path} is refused",
                 "A name of the path, other than the last one, is a symbolic link. The program does not follow such "
@@ -121,8 +121,8 @@ REFUSED = Section(
         Message("Left", AT_LINE + "PATH is a KIND, left", "{path} is a {kind}, so the line leaves it as it is",
                 "The line is not for an object of this kind. Examples are a symbolic link for `w` or `e`, a file for "
                 "`D` when removing, and a file where a `d` line makes a directory.",
-                "Nothing needs to be done if the object is as you want it. If the line makes an object, = after its type "
-                "replaces what is there, as in d=. Lines of the types w and e take no =.",
+                "Nothing needs to be done if the object is as you want it. If the line makes an object, add = to its type, "
+                "as in d=, and the line replaces what is there. Lines of the types w and e take no =.",
                 ("path",), NOTE),
         Message("NotEmpty", AT_LINE + "PATH is not empty", "{path} is not empty, so it is not removed",
                 "An `r` line names a directory in which something remains.",
@@ -153,8 +153,8 @@ REPORTS = Section(
         hazard("below", "the line makes something below what a C line makes",
                "The line makes something below what a `C` line makes, so the copy depends on which came first.",
                "Put it into the directory that is copied."),
-        hazard("input", "the line may change configuration or account files",
-               "The line may change files that the run itself reads: configuration or account files.",
+        hazard("input", "the line may change configuration files, /etc/passwd or /etc/group",
+               "The line may change files that the run itself reads: configuration files, /etc/passwd or /etc/group.",
                "Give the line a run of its own."),
         hazard("mask", "a mode with ~ meets an ACL with a base entry",
                "A mode with `~` and an ACL line with a base entry (for the owner, the owning group or others) reach one "

@@ -14,8 +14,9 @@ FAULTS = Section(
     (
         fault("BadType", "unknown type {field}",
               "The type is none of `u`, `u!`, `g`, `m` and `r`.", "Correct the type.", "type"),
-        fault("MissingField", "the line has no ID",
-              "An `m` line names no group, or an `r` line no range.", "Write it in the third field.", "id"),
+        fault("MissingField", "the line has no group or range",
+              "An `m` line names no group, or an `r` line has no range.",
+              "Write the group or the range in the third field.", "id"),
         fault("BadName", "{field} is not a name of a user or a group",
               "A name does not begin with a letter or `_`, has other characters than letters, digits, `_` and `-`, or "
               "has more than 31 characters. Or an `r` line has a name other than `-`.",
@@ -42,9 +43,9 @@ ACCOUNTS = Section(
         Message("InUse", AT_LINE + "NUMBER is in use for NAME",
                 "'{name}' does not get the ID {number}, which another account has",
                 "The line asks for the ID NUMBER for the user or group NAME. But another user has this UID, or a group "
-                "with another name has this GID. NAME was made all the same. A user got the GID of the group of its own "
-                "name, if there is one, and the number is free as a UID and is not 0. In all other cases NAME got the "
-                "highest free ID of the pool. The pool is 1 to 999, or the ranges of all `r` lines.",
+                "with another name has this GID. NAME was made all the same. The group with the name of a user may "
+                "have a GID that is not 0 and is free as a UID. Then the user got this number as its UID. In all other "
+                "cases NAME got the highest free ID of the pool. The pool is 1 to 999, or the ranges of all `r` lines.",
                 "Write another ID or -, or put {name} into the account file of the image beforehand.",
                 ("id",), WARNING),
         Message("NoFreeId", "no free id for NAME", "there is no free ID for '{name}'",

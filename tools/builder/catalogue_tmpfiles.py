@@ -137,8 +137,8 @@ TYPES = Section(
         Message("ConditionalExecute", AT_LINE + "BadPerm", "the ACL entry {field} has the permission X",
                 "The permission `X` (execute for directories and executable files alone) is known to systemd 257, and not "
                 "to 252. The program does not know it either.",
-                "Nothing needs to be done for an image. To have the entries, write r-x for directories and r-- for "
-                "files.", ("acl",), NOTE, "65", "a permission with `X`"),
+                "Nothing needs to be done for an image. If you need these entries, write two lines: one with r-x for the "
+                "directories, and one with r-- for the files.", ("acl",), NOTE, "65", "a permission with `X`"),
         fault("BadPerm", "the ACL entry {field} has permissions other than r, w, x and -",
               "The permissions of an entry are not one to three characters of `r`, `w`, `x` and `-`, each letter "
               "once.", "Write them as r-x.", "acl"),

@@ -7,7 +7,7 @@ from tests.helper import TOOLS
 
 TOP = TOOLS.parent
 ROW = re.compile(r"(\w+) \| [^|]+(?: \| (.+))?")
-EXCEPT = "all crates above except "
+EXCEPT = "all earlier crates except "
 
 
 def crates() -> dict[str, set[str]]:
