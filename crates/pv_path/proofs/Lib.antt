@@ -4,5 +4,6 @@ pub mod Digits
 pub mod Relating
 pub mod Pieces
 pub mod PathLaws
+pub mod HeadLaws
 pub mod Printed
 pub mod Spelled

@@ -132,7 +132,16 @@ impl PartialEq for Name {
 
     ghost laws = { partial_equiv_from_equiv nat_list_eq_equiv };
 
+    // The heads tell most names apart. The bytes are compared only if the heads are equal and have no zero byte.
+    #[tactic(auto, using(crate::proofs::HeadLaws::told_different, crate::proofs::HeadLaws::told_same))]
     fn eq(&self, other: &Name) -> bool {
+        let head = self.head();
+        if head != other.head() {
+            return false;
+        }
+        if head % 256 == 0 {
+            return true;
+        }
         self.bytes() == other.bytes()
     }
 }
@@ -150,7 +159,19 @@ impl Ord for Name {
 
     ghost matches_eq = { texts_ties };
 
+    // The heads order most names. The bytes are compared only if the heads are equal and have no zero byte.
+    #[tactic(auto, using(crate::proofs::HeadLaws::told_less, crate::proofs::HeadLaws::told_greater, crate::proofs::HeadLaws::told_equal))]
     fn cmp(&self, other: &Name) -> Ordering {
+        let (head, other_head) = (self.head(), other.head());
+        if head < other_head {
+            return Ordering::Less;
+        }
+        if other_head < head {
+            return Ordering::Greater;
+        }
+        if head % 256 == 0 {
+            return Ordering::Equal;
+        }
         self.bytes().cmp(other.bytes())
     }
 }
