@@ -4,7 +4,6 @@ ghost use Rattle.pv_io.specs.Calls.{call_after};
 ghost use Rattle.pv_io.specs.Faults.{HasRisen, fault_after};
 ghost use Rattle.pv_io.specs.Memory.{fresh};
 
-use std::alloc::Global;
 use std::marker::Model;
 
 /// Which calls are to fail, with the number of the next call and a count of faults.
@@ -43,11 +42,6 @@ impl Plan {
             next: Some(0),
             faults: 0,
         }
-    }
-
-    /// Returns the allocator of the list of numbers.
-    pub fn alloc(&self) -> Global {
-        *self.fails.allocator()
     }
 
     /// Counts one call, and returns whether the plan lists its number, so that the call is to fail.
