@@ -1,6 +1,6 @@
 -- Trees: finite maps from paths to objects, in which the path above each object is a directory (inode(7),
 -- path_resolution(7)).
-use Rattle.std.specs.Prelude.{◌≡◌, ◌≢◌, ℕ, true, List, [], ◌∷◌, ◌++◌, Option, Some, None, is_some, option_map, option_and_then}
+use Rattle.std.specs.Prelude.{◌≡◌, ◌≢◌, ℕ, true, List, [], ◌∷◌, ◌++◌, map, Option, Some, None, is_some, option_map, option_and_then}
 use Rattle.std.specs.List.{filter_map}
 use Rattle.std.specs.FinMap as fin
 use Rattle.pv_path.specs.Paths.{Path, path_cmp, rest_under, parent_of, has_names}
@@ -74,6 +74,14 @@ child_name path q = option_and_then single (rest_under path q)
 -- The names in a directory, in byte order.
 abbrev pub names_below : Files → Path → List (List ℕ)
 names_below files path = filter_map (child_name path) (fin.keys files)
+
+-- The path of the first of these names in the root, of the second in the directory at the first name of a path, and so
+-- on. There are as many as the shorter list has names. Example: for `/run/app` with the names `a` and `b` they are `/a`
+-- and `/run/b`.
+abbrev pub beside : Path → List (List ℕ) → List Path
+beside [] names = []
+beside (name ∷ path) [] = []
+beside (name ∷ path) (other ∷ names) = (other ∷ []) ∷ map (λ p. name ∷ p) (beside path names)
 
 -- ---- what makes a map a tree
 

@@ -1,16 +1,17 @@
 //! Trees that can be read and changed: what a caller may ask of one, and why a step is not done.
-ghost use Rattle.std.specs.Prelude.{◌≡◌, ℕ, ◌∷◌, ◌++◌, [], ◌≤◌, List, length, Some, IfOk, OnOk, OnErr, IsErrOf};
+ghost use Rattle.std.specs.Prelude.{◌≡◌, ℕ, ◌+◌, ◌∷◌, ◌++◌, [], ◌≤◌, List, length, take, slice_get, Some, is_some, IfOk, OnOk, OnErr, IsErrOf};
+ghost use Rattle.std.specs.List.{list_any};
 ghost use Rattle.std.specs.Option.{option_copied};
 ghost use Rattle.pv_steps.specs.declared.step.Step.{Step as StepValue};
 ghost use Rattle.pv_steps.specs.declared.tree.TreeFault.TheVariants.{Failed, Memory};
 ghost use Rattle.pv_steps.specs.declared.node.Kind.TheVariants.{Directory, File, Link};
-ghost use Rattle.pv_steps.specs.Trees.{Files, places, IsKind, IsTree, node_at, payload_at, names_below};
+ghost use Rattle.pv_steps.specs.Trees.{Files, places, IsKind, IsTree, node_at, payload_at, names_below, beside};
 ghost use Rattle.pv_steps.specs.Steps.{Can, StepFits, after};
 ghost use Rattle.pv_steps.specs.Counting.{refused, faults_after};
 
 use crate::node::Node;
 use crate::step::Step;
-use pv_path::{NameList, TreePath};
+use pv_path::{Name, NameList, TreePath};
 use std::alloc::{AllocError, AllocFailed, Global};
 use thiserror::Error;
 
@@ -66,6 +67,28 @@ pub trait Tree {
     fn look(&self, path: &TreePath) -> Option<&Node>
         ensures node { option_copied result ≡ node_at (state self.now) path.now }
         ensures tree { IsTree (state self.now) };
+
+    /// Returns the nodes of the objects along a path: at index `k` the node at its first `k` names, where 0 is the root.
+    ///
+    /// The list ends before the first of them that is absent. One call takes about as long as one `look` at the whole
+    /// path. The call does not follow links. The only error is `AllocError`.
+    ///
+    /// For example, if `/run` is present and `/run/app` is absent, the answer for `/run/app/x` is the nodes of the root
+    /// and of `/run`.
+    fn look_along(&self, alloc: Global, path: &TreePath) -> Result<Vec<&Node>, AllocError>
+        ensures nodes { IfOk result (λ nodes. (k : ℕ) → k ≤ length path.now
+            → option_copied (slice_get nodes.items k) ≡ node_at (state self.now) (take k path.now)) }
+        ensures length { IfOk result (λ nodes. length nodes.items ≤ length path.now + 1) };
+
+    /// Returns whether one of the directories along a path has an entry with the name that is given for it.
+    ///
+    /// The name at index `k` is sought in the directory at the first `k` names of the path. The directory at the whole
+    /// path is not asked. One call takes about as long as one `look` at the path. The call does not allocate.
+    ///
+    /// For example, for the path `/run/app` and the names `a` and `b` the answer says whether `/a` or `/run/b` is
+    /// present.
+    fn has_beside(&self, path: &TreePath, names: &[Name]) -> bool
+        ensures present { result ≡ list_any (λ p. is_some (places (state self.now) p)) (beside path.now names.now) };
 
     /// Returns the names in the directory at a path, in byte order, without `.` and `..`. At the path there must be a
     /// directory. The only error is `AllocError`.
