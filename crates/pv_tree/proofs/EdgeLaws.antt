@@ -245,6 +245,10 @@ module _ (g e h : Edges) (d : Path) (k : ℕ) (n : List ℕ) (d' : Path) (k' : �
   pub moved_under : (r : Path) → led h 0 ((d' ++ n' ∷ []) ++ r) ≡ led g 0 ((d ++ n ∷ []) ++ r)
   moved_under r = led-on h 0 j (d' ++ n' ∷ []) r (child_is e h d' k' n' (Some j) second once_less directory_less) ∙ below_moved r ∙ sym (from_child r)
 
+  -- the new directory stays where it is
+  pub moved_directory : led h 0 d' ≡ Some k'
+  moved_directory = directory_stays e h d' k' n' (Some j) second once_less directory_less
+
   moved_less : (q : Path) → is_prefix (d' ++ n' ∷ []) q ≡ false → led h 0 q ≡ led e 0 q
   moved_less = elsewhere e h d' k' n' (Some j) second once_less directory_less
 

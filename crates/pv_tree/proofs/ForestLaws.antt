@@ -15,7 +15,7 @@ use Rattle.pv_steps.specs.Steps.{put_at, on_at, gone, moved, Movable, Yields, ab
 use Rattle.pv_tree.specs.declared.slot.Slot.{Slot}
 use Rattle.pv_tree.specs.Edges.{Edges, Objects, led, IsSet, IsChanged, IsPlaced, places_by}
 use Rattle.pv_tree.specs.Slots.{child_in, object_in, number_in, places_in, next_number, IsForest, AreFree, IsUnreached}
-use Rattle.pv_tree.proofs.EdgeLaws.{Once, led-agree, directory_stays, led-on, made_is, made_else, made_once, made_apart, gone_before, gone_once, gone_apart, moved_once, moved_apart, moved_still, path_cases, edge_cases, without_edge, without_set}
+use Rattle.pv_tree.proofs.EdgeLaws.{Once, led-agree, directory_stays, led-on, made_is, made_else, made_once, made_apart, gone_before, gone_once, gone_apart, moved_once, moved_apart, moved_still, moved_directory, path_cases, edge_cases, without_edge, without_set}
 use Rattle.pv_tree.proofs.PlaceLaws.{places_changed, places_made, places_gone, places_moved}
 use Rattle.pv_tree.proofs.SlotLaws.{slice_get_push, slice_get_before}
 
@@ -243,6 +243,9 @@ module _ (s s1 new : List Slot) (now k : ℕ) (n : List ℕ) (d : Path) (forest 
   pub drop_forest : IsForest new
   drop_forest = forest_same s1 new same len drop_forest1
 
+  pub drop_directory : number_in new d ≡ Some k
+  drop_directory = ap (λ (g : Edges). led g 0 d) same ∙ directory_stays (child_in s) (child_in s1) d k n None edges (once_in s forest) at
+
   drop_apart : (i : ℕ) → IsUnreached s i → IsUnreached new i
   drop_apart i apart = unreached_same s1 new same len i (λ path is. apart path (gone_before (child_in s) (child_in s1) d k n edges (once_in s forest) at path i is))
 
@@ -305,6 +308,11 @@ module _ (s s1 s2 s3 s4 new : List Slot) (now k k' j : ℕ) (n n' : List ℕ) (d
       ap (λ (h : Edges). places_by h (object_in new)) edges_new
       ∙ places_moved now (child_in s) (without_edge k n (child_in s)) (child_in s2) (object_in s) (object_in s3) (object_in s4) (object_in new) d k n d' k' n' j
       less_first then_second (once_in s forest) at at' child outside (subst (λ (a : Objects). IsChanged k' (modified now) a (object_in s3)) objects_new touch1) touch2 renew
+
+  pub move_directory : number_in new d' ≡ Some k'
+  move_directory =
+      ap (λ (h : Edges). led h 0 d') edges_new
+      ∙ moved_directory (child_in s) (without_edge k n (child_in s)) (child_in s2) d k n d' k' n' j less_first then_second (once_in s forest) at at' child outside
 
   move_once : Once (child_in s2)
   move_once = moved_once (child_in s) (without_edge k n (child_in s)) (child_in s2) d k n d' k' n' j less_first then_second (once_in s forest) at at' child outside
@@ -418,18 +426,20 @@ pub rename_kept : (s s1 s2 s3 s4 new : List Slot) (free free0 rest : List ℕ) (
     → IsChanged k' (modified now) (object_in s2) (object_in s3) → child_in s3 ≡ child_in s2 → length s3 ≡ length s2
     → IsChanged k (modified now) (object_in s3) (object_in s4) → child_in s4 ≡ child_in s3 → length s4 ≡ length s3
     → IsChanged j (changed now) (object_in s4) (object_in new) → child_in new ≡ child_in s4 → length new ≡ length s4
-    → free0 ≡ free → rest ≡ free0 ++ option_to_list replaced → Kept new rest (moved now from to (places_in s))
+    → free0 ≡ free → rest ≡ free0 ++ option_to_list replaced → Kept new rest (moved now from to (places_in s)) × (number_in new (parent_of to) ≡ Some k')
 rename_kept s s1 s2 s3 s4 new free free0 rest now k k' j replaced n n' from to forest are at is at' is' child outside first o1 l1 old second o2 l2 t1 e3 l3 t2 e4 l4 r e5 l5 same_free is_rest =
     let c = sym child in
-    let out : is_prefix (parent_of from ++ n ∷ []) (parent_of to ++ n' ∷ []) ≡ false = ap (λ (p : Path). is_prefix p (parent_of to ++ n' ∷ [])) (sym is) ∙ ap (is_prefix from) (sym is') ∙ outside in
-    record {
-      forest = move_forest s s1 s2 s3 s4 new now k k' j n n' (parent_of from) (parent_of to) forest at at' c out first o1 l1 second o2 l2 t1 e3 l3 t2 e4 l4 r e5 l5;
-      spare = more_free new free free0 rest replaced
-          (move_kept s s1 s2 s3 s4 new now k k' j n n' (parent_of from) (parent_of to) forest at at' c out first o1 l1 second o2 l2 t1 e3 l3 t2 e4 l4 r e5 l5 free are)
-          (λ f e. move_free s s1 s2 s3 s4 new now k k' j n n' (parent_of from) (parent_of to) forest at at' c out first o1 l1 second o2 l2 t1 e3 l3 t2 e4 l4 r e5 l5 free f are (sym old ∙ e)) same_free is_rest;
-      places = move_places s s1 s2 s3 s4 new now k k' j n n' (parent_of from) (parent_of to) forest at at' c out first o1 l1 second o2 l2 t1 e3 l3 t2 e4 l4 r e5 l5
-          ∙ ap (λ (p : Path). moved now p (parent_of to ++ n' ∷ []) (places_in s)) (sym is) ∙ ap (λ (p : Path). moved now from p (places_in s)) (sym is');
-    }
+    let out : is_prefix (parent_of from ++ n ∷ []) (parent_of to ++ n' ∷ []) ≡ false = ap (λ (p : Path). is_prefix p (parent_of to ++ n' ∷ [])) (sym is) ∙ ap (is_prefix from) (sym is') ∙ outside in (
+      record {
+        forest = move_forest s s1 s2 s3 s4 new now k k' j n n' (parent_of from) (parent_of to) forest at at' c out first o1 l1 second o2 l2 t1 e3 l3 t2 e4 l4 r e5 l5;
+        spare = more_free new free free0 rest replaced
+            (move_kept s s1 s2 s3 s4 new now k k' j n n' (parent_of from) (parent_of to) forest at at' c out first o1 l1 second o2 l2 t1 e3 l3 t2 e4 l4 r e5 l5 free are)
+            (λ f e. move_free s s1 s2 s3 s4 new now k k' j n n' (parent_of from) (parent_of to) forest at at' c out first o1 l1 second o2 l2 t1 e3 l3 t2 e4 l4 r e5 l5 free f are (sym old ∙ e)) same_free is_rest;
+        places = move_places s s1 s2 s3 s4 new now k k' j n n' (parent_of from) (parent_of to) forest at at' c out first o1 l1 second o2 l2 t1 e3 l3 t2 e4 l4 r e5 l5
+            ∙ ap (λ (p : Path). moved now p (parent_of to ++ n' ∷ []) (places_in s)) (sym is) ∙ ap (λ (p : Path). moved now from p (places_in s)) (sym is');
+      },
+      move_directory s s1 s2 s3 s4 new now k k' j n n' (parent_of from) (parent_of to) forest at at' c out first o1 l1 second o2 l2 t1 e3 l3 t2 e4 l4 r e5 l5,
+    )
 
 -- the number at a path is that of the child in its directory
 pub number_of_child : (s : List Slot) (k : ℕ) (n : List ℕ) (path : Path) → number_in s (parent_of path) ≡ Some k → path ≡ parent_of path ++ n ∷ [] → number_in s path ≡ child_in s k n

@@ -1,6 +1,5 @@
 pub mod BinarySearch
 pub mod Names
-pub mod HeadLaws
 pub mod EdgeLaws
 pub mod PlaceLaws
 pub mod SlotLaws
@@ -10,6 +9,8 @@ pub mod State
 pub mod WalkLaws
 pub mod GrowthLaws
 pub mod NodeLaws
+pub mod NearLaws
 pub mod FuseLaws
 pub mod PlanLaws
 pub mod GrowLaws
+pub mod AlongLaws

@@ -21,7 +21,7 @@ use Rattle.pv_steps.specs.declared.step.Step.{Step}
 use Rattle.pv_steps.specs.declared.step.Step.TheVariants.{Write, SetMode, SetOwner, SetAcl, SetAttrs, SetLetters, SetStamps, Unlink, RemoveDir}
 use Rattle.pv_steps.specs.Objects.{IsObject}
 use Rattle.pv_steps.specs.Trees.{Files, Places, places, kind_of, IsTree, IsTreeIn, IsKind, IsKindIn, IsEmptyIn, names_below}
-use Rattle.pv_steps.specs.Steps.{Can, StepFits, after, after_at, on_at, gone, put_at, IsOther}
+use Rattle.pv_steps.specs.Steps.{Can, StepFits, after, after_at, on_at, gone, made, put_at, IsOther}
 use Rattle.pv_steps.proofs.StepLaws.{same_files, places_after}
 use Rattle.pv_steps.proofs.TreeLaws.{tree_after, IsTreeIn-put, not_absent, present_of_kind, present_above, directory_above}
 use Rattle.pv_steps.proofs.NameLaws.{names_below-rise, names_below-are}
@@ -30,6 +30,7 @@ use Rattle.pv_tree.specs.Changes.{IsRemovable, change_of}
 use Rattle.pv_path.specs.Names.{name_cmp}
 use Rattle.pv_tree.specs.Children.{Children}
 use Rattle.pv_tree.specs.Edges.{led}
+use Rattle.pv_tree.specs.Near.{place_of}
 use Rattle.pv_tree.specs.Slots.{child_in, object_in, number_in, slot_in, places_in, files_of, IsForest, AreFree, IsTreeOf, object_of}
 use Rattle.pv_tree.proofs.EdgeLaws.{led-on}
 use Rattle.pv_tree.proofs.Files.{places_of}
@@ -71,29 +72,44 @@ removable_directory t path tree dir empty below_root = record {
     onto (m ∷ p) n r = ap (λ (s : Path). m ∷ s) (onto p n r)
 
 -- the condition of a step that removes the object at a path, and what is left after it
-pub removable : (t : Places) (step : Step) (path : Path) → IsTreeIn t → (step ≡ Unlink path) ⊎ (step ≡ RemoveDir path) → Can t step → IsRemovable t path
-removable t step path tree (inl e) can = removable_object t path tree (subst (Can t) e can)
-removable t step path tree (inr e) can = let parts : Can t (RemoveDir path) = subst (Can t) e can in removable_directory t path tree parts.0 parts.1.0 parts.1.1
+pub removable : (t : Places) (step : Step) (path : Path) → IsTreeIn t → path ≡ place_of step → ((p : Path) × (step ≡ Unlink p)) ⊎ ((p : Path) × (step ≡ RemoveDir p)) → Can t step → IsRemovable t path
+removable t step path tree at (inl e) can = subst (IsRemovable t) (sym (at ∙ ap place_of e.1)) (removable_object t e.0 tree (subst (Can t) e.1 can))
+removable t step path tree at (inr e) can =
+    let parts : Can t (RemoveDir e.0) = subst (Can t) e.1 can in
+    subst (IsRemovable t) (sym (at ∙ ap place_of e.1)) (removable_directory t e.0 tree parts.0 parts.1.0 parts.1.1)
 
-pub removed_at : (t : Places) (step : Step) (path : Path) (now : ℕ) → (step ≡ Unlink path) ⊎ (step ≡ RemoveDir path) → gone now path t ≡ after_at t step now
-removed_at t step path now (inl e) = subst (λ (s : Step). gone now path t ≡ after_at t s now) (sym e) refl
-removed_at t step path now (inr e) = subst (λ (s : Step). gone now path t ≡ after_at t s now) (sym e) refl
+removed_as : (t : Places) (step s : Step) (path : Path) (now : ℕ) → path ≡ place_of step → step ≡ s → gone now (place_of s) t ≡ after_at t s now → gone now path t ≡ after_at t step now
+removed_as t step s path now at e is = ap (λ (p : Path). gone now p t) at ∙ subst (λ (v : Step). gone now (place_of v) t ≡ after_at t v now) (sym e) is
 
-changed_as : (t : Places) (step s : Step) (path : Path) (now : ℕ) → step ≡ s → on_at path (change_of s now) t ≡ after_at t s now → on_at path (change_of step now) t ≡ after_at t step now
-changed_as t step s path now e is = subst (λ (v : Step). on_at path (change_of v now) t ≡ after_at t v now) (sym e) is
+pub removed_at : (t : Places) (step : Step) (path : Path) (now : ℕ) → path ≡ place_of step → ((p : Path) × (step ≡ Unlink p)) ⊎ ((p : Path) × (step ≡ RemoveDir p)) → gone now path t ≡ after_at t step now
+removed_at t step path now at (inl e) = removed_as t step (Unlink e.0) path now at e.1 refl
+removed_at t step path now at (inr e) = removed_as t step (RemoveDir e.0) path now at e.1 refl
+
+-- what a step leaves that makes an object
+pub made_at : (t : Places) (step s : Step) (path : Path) (o x : Object) (now : ℕ) → path ≡ place_of step → step ≡ s → o ≡ x → made now (place_of s) x t ≡ after_at t s now
+    → made now path o t ≡ after_at t step now
+made_at t step s path o x now at e same is =
+    ap (λ (p : Path). made now p o t) at ∙ ap (λ (y : Object). made now (place_of step) y t) same
+    ∙ subst (λ (v : Step). made now (place_of v) x t ≡ after_at t v now) (sym e) is
+
+changed_as : (t : Places) (step s : Step) (path : Path) (now : ℕ) → path ≡ place_of step → step ≡ s → on_at (place_of s) (change_of s now) t ≡ after_at t s now
+    → on_at path (change_of step now) t ≡ after_at t step now
+changed_as t step s path now at e is =
+    ap (λ (p : Path). on_at p (change_of step now) t) at ∙ subst (λ (v : Step). on_at (place_of v) (change_of v now) t ≡ after_at t v now) (sym e) is
 
 -- what a step leaves that changes the object at a path
-pub changed_at : (t : Places) (step : Step) (path : Path) (now : ℕ)
-    → ((content : List ℕ) × (step ≡ Write path content)) ⊎ (((mode : ℕ) × (step ≡ SetMode path mode)) ⊎ (((uid : ℕ) × (gid : ℕ) × (step ≡ SetOwner path uid gid)) ⊎ (((acl : Acl) × (step ≡ SetAcl path acl))
-    ⊎ (((attrs : List Attr) × (step ≡ SetAttrs path attrs)) ⊎ (((letters : ℕ) × (step ≡ SetLetters path letters)) ⊎ ((access : ℕ) × (modify : ℕ) × (step ≡ SetStamps path access modify)))))))
+pub changed_at : (t : Places) (step : Step) (path : Path) (now : ℕ) → path ≡ place_of step
+    → ((p : Path) × (content : List ℕ) × (step ≡ Write p content)) ⊎ (((p : Path) × (mode : ℕ) × (step ≡ SetMode p mode)) ⊎ (((p : Path) × (uid : ℕ) × (gid : ℕ) × (step ≡ SetOwner p uid gid))
+    ⊎ (((p : Path) × (acl : Acl) × (step ≡ SetAcl p acl)) ⊎ (((p : Path) × (attrs : List Attr) × (step ≡ SetAttrs p attrs)) ⊎ (((p : Path) × (letters : ℕ) × (step ≡ SetLetters p letters))
+    ⊎ ((p : Path) × (access : ℕ) × (modify : ℕ) × (step ≡ SetStamps p access modify)))))))
     → on_at path (change_of step now) t ≡ after_at t step now
-changed_at t step path now (inl e) = changed_as t step (Write path e.0) path now e.1 refl
-changed_at t step path now (inr (inl e)) = changed_as t step (SetMode path e.0) path now e.1 refl
-changed_at t step path now (inr (inr (inl e))) = changed_as t step (SetOwner path e.0 e.1) path now e.2 refl
-changed_at t step path now (inr (inr (inr (inl e)))) = changed_as t step (SetAcl path e.0) path now e.1 refl
-changed_at t step path now (inr (inr (inr (inr (inl e))))) = changed_as t step (SetAttrs path e.0) path now e.1 refl
-changed_at t step path now (inr (inr (inr (inr (inr (inl e)))))) = changed_as t step (SetLetters path e.0) path now e.1 refl
-changed_at t step path now (inr (inr (inr (inr (inr (inr e)))))) = changed_as t step (SetStamps path e.0 e.1) path now e.2 refl
+changed_at t step path now at (inl e) = changed_as t step (Write e.0 e.1) path now at e.2 refl
+changed_at t step path now at (inr (inl e)) = changed_as t step (SetMode e.0 e.1) path now at e.2 refl
+changed_at t step path now at (inr (inr (inl e))) = changed_as t step (SetOwner e.0 e.1 e.2) path now at e.3 refl
+changed_at t step path now at (inr (inr (inr (inl e)))) = changed_as t step (SetAcl e.0 e.1) path now at e.2 refl
+changed_at t step path now at (inr (inr (inr (inr (inl e))))) = changed_as t step (SetAttrs e.0 e.1) path now at e.2 refl
+changed_at t step path now at (inr (inr (inr (inr (inr (inl e)))))) = changed_as t step (SetLetters e.0 e.1) path now at e.2 refl
+changed_at t step path now at (inr (inr (inr (inr (inr (inr e)))))) = changed_as t step (SetStamps e.0 e.1 e.2) path now at e.3 refl
 
 -- ---- reads
 

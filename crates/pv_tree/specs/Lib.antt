@@ -2,11 +2,11 @@ pub mod Finding
 pub mod Children
 pub mod Content
 pub mod Forms
-pub mod Heads
 pub mod Edges
 pub mod Slots
 pub mod Walks
 pub mod Sole
+pub mod Near
 pub mod Held
 pub mod Growth
 pub mod Changes

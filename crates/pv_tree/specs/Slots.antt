@@ -37,6 +37,10 @@ number_in slots path = led (child_in slots) 0 path
 abbrev pub slot_in : List Slot → Path → Option Slot
 slot_in slots path = option_and_then (slice_get slots) (number_in slots path)
 
+-- The slot of the child that a slot has by a name, if there is one.
+abbrev pub child_of_slot : List Slot → Slot → List ℕ → Option Slot
+child_of_slot slots s name = option_and_then (slice_get slots) (fin.get s.content.children name)
+
 -- The object at each path.
 abbrev pub places_in : List Slot → Places
 places_in slots = places_by (child_in slots) (object_in slots)

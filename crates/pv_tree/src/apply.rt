@@ -1,15 +1,18 @@
 //! Does one step on the slots, and records it.
-ghost use Rattle.std.specs.Prelude.{◌≡◌, ℕ, List, ◌∷◌, [], ◌++◌, OnOk, OnErr, IsErrOf, nat_lt, true};
+ghost use Rattle.std.specs.Prelude.{◌≡◌, ℕ, List, ◌∷◌, [], ◌++◌, OnOk, OnErr, IsErrOf, nat_lt, true, Some};
 ghost use Rattle.std.specs.List.{list_all};
-ghost use Rattle.pv_path.specs.Paths.{has_names};
+ghost use Rattle.pv_path.specs.Paths.{has_names, parent_of};
 ghost use Rattle.pv_steps.specs.Steps.{Can, after_at, device_kind, StepFits};
 ghost use Rattle.pv_steps.specs.Objects.{fresh};
 ghost use Rattle.pv_steps.specs.Trees.{IsTreeIn};
 ghost use Rattle.pv_steps.specs.declared.tree.TreeFault.TheVariants.{Failed};
-ghost use Rattle.pv_tree.specs.Slots.{IsForest, AreFree, places_in};
+ghost use Rattle.pv_tree.specs.Near.{IsNear, place_of};
+ghost use Rattle.pv_tree.specs.Slots.{IsForest, AreFree, number_in, places_in};
 
 use crate::edits::{change_at, make, plain, rename, unmake};
 use crate::slot::Slot;
+use crate::slots::Location;
+use crate::step_log::{StepLog, directory_by, place_of};
 use pv_path::{Bytes, TreePath};
 use pv_steps::{Kind, Object, Step, TreeFault};
 use std::alloc::{AllocError, Global};
@@ -21,7 +24,7 @@ pub(crate) fn do_told(
     alloc: Global,
     slots: &mut Vec<Slot>,
     free: &mut Vec<usize>,
-    steps: &mut Vec<Step>,
+    log: &mut StepLog,
     step: &Step,
     now: u64,
 ) -> Result<(), TreeFault>
@@ -29,19 +32,26 @@ pub(crate) fn do_told(
     requires free { AreFree slots.old.items free.old.items }
     requires tree { IsTreeIn (places_in slots.old.items) }
     requires can { Can (places_in slots.old.items) step.now }
+    requires near { IsNear slots.old.items log.old.steps.items log.old.near }
     ensures forest { IsForest slots.new.items }
     ensures free { AreFree slots.new.items free.new.items }
     ensures ok { OnOk result (places_in slots.new.items ≡ after_at (places_in slots.old.items) step.now now) }
-    ensures recorded { OnOk result (steps.new.items ≡ steps.old.items ++ step.now ∷ []) }
+    ensures recorded { OnOk result (log.new.steps.items ≡ log.old.steps.items ++ step.now ∷ []) }
     ensures err { OnErr result (slots.new.items ≡ slots.old.items) }
-    ensures unrecorded { OnErr result (steps.new.items ≡ steps.old.items) }
+    ensures unrecorded { OnErr result (log.new.steps.items ≡ log.old.steps.items) }
+    ensures near { IsNear slots.new.items log.new.steps.items log.new.near }
     ensures fault { IsErrOf result Failed → ⊥ }
 {
-    tell(steps, step)?;
-    match do_step(alloc, slots, free, step, now) {
-        Ok(()) => Ok(()),
+    let path = place_of(step);
+    let directory = directory_by(slots, log, path);
+    tell(&mut log.steps, step)?;
+    match do_step(alloc, slots, free, step, Location { path, directory }, now) {
+        Ok(()) => {
+            log.near = directory;
+            Ok(())
+        }
         Err(fault) => {
-            let _untold = steps.pop();
+            let _untold = log.steps.pop();
             Err(fault.into())
         }
     }
@@ -56,59 +66,63 @@ fn tell(steps: &mut Vec<Step>, step: &Step) -> Result<(), AllocError>
     Ok(())
 }
 
-/// Does a step on the slots. If memory runs out, they are as before.
+/// Does a step on the slots, at its path. If memory runs out, they are as before.
 fn do_step(
     alloc: Global,
     slots: &mut Vec<Slot>,
     free: &mut Vec<usize>,
     step: &Step,
+    at: Location<'_>,
     now: u64,
 ) -> Result<(), AllocError>
     requires forest { IsForest slots.old.items }
     requires free { AreFree slots.old.items free.old.items }
     requires tree { IsTreeIn (places_in slots.old.items) }
     requires can { Can (places_in slots.old.items) step.now }
+    requires path { at.path.now ≡ place_of step.now }
+    requires directory { number_in slots.old.items (parent_of at.path.now) ≡ Some at.directory }
     ensures forest { IsForest slots.new.items }
     ensures free { AreFree slots.new.items free.new.items }
     ensures ok { OnOk result (places_in slots.new.items ≡ after_at (places_in slots.old.items) step.now now) }
+    ensures directory { OnOk result (number_in slots.new.items (parent_of at.entry.path.now) ≡ Some at.entry.directory) }
     ensures err { OnErr result (slots.new.items ≡ slots.old.items) }
 {
     match step {
-        Step::MakeDir { path } => {
+        Step::MakeDir { .. } => {
             let object = plain(alloc, Kind::Directory, 0o700, now);
-            make(alloc, slots, free, path, object, now)
+            make(alloc, slots, free, at, object, now)
         }
-        Step::MakeFile { path } => {
+        Step::MakeFile { .. } => {
             let object = plain(alloc, Kind::File, 0o600, now);
-            make(alloc, slots, free, path, object, now)
+            make(alloc, slots, free, at, object, now)
         }
-        Step::MakeFifo { path } => {
+        Step::MakeFifo { .. } => {
             let object = plain(alloc, Kind::Fifo, 0o600, now);
-            make(alloc, slots, free, path, object, now)
+            make(alloc, slots, free, at, object, now)
         }
         Step::MakeDevice {
-            path,
             block,
             major,
             minor,
+            ..
         } => {
             let kind = device_kind(*block);
             let object = Object::fresh(alloc, kind, 0o600, Bytes::new(alloc), *major, *minor, now);
-            make(alloc, slots, free, path, object, now)
+            make(alloc, slots, free, at, object, now)
         }
-        Step::MakeLink { path, target } => {
+        Step::MakeLink { target, .. } => {
             let object = Object::fresh(alloc, Kind::Link, 0o777, target.copy()?, 0, 0, now);
-            make(alloc, slots, free, path, object, now)
+            make(alloc, slots, free, at, object, now)
         }
-        Step::Write { path, .. }
-        | Step::SetMode { path, .. }
-        | Step::SetOwner { path, .. }
-        | Step::SetAcl { path, .. }
-        | Step::SetAttrs { path, .. }
-        | Step::SetLetters { path, .. }
-        | Step::SetStamps { path, .. } => change_at(slots, path, step, now),
-        Step::Rename { from, to } => rename(slots, free, from, to, now),
-        Step::Unlink { path } | Step::RemoveDir { path } => unmake(slots, free, path, now),
+        Step::Write { .. }
+        | Step::SetMode { .. }
+        | Step::SetOwner { .. }
+        | Step::SetAcl { .. }
+        | Step::SetAttrs { .. }
+        | Step::SetLetters { .. }
+        | Step::SetStamps { .. } => change_at(slots, at, step, now),
+        Step::Rename { from, .. } => rename(slots, free, from, at, now),
+        Step::Unlink { .. } | Step::RemoveDir { .. } => unmake(slots, free, at, now),
     }
 }
 

@@ -15,7 +15,7 @@ ghost use Rattle.pv_tree.specs.Slots.{places_in};
 use crate::edits::put_below;
 use crate::mem_tree::MemTree;
 use crate::slot::Slot;
-use crate::slots::{is_directory_in, push_within, root_slots};
+use crate::slots::{is_directory_in, push_within, root_slots, shared_names};
 use pv_path::{Name, TreePath};
 use pv_steps::{Node, Object};
 use std::alloc::{AllocError, Global};
@@ -43,17 +43,6 @@ impl From<AllocError> for BuildFault {
     fn from(_e: AllocError) -> BuildFault {
         BuildFault::Memory
     }
-}
-
-/// Counts the names that two paths share at their beginning.
-fn shared_names(first: &[Name], second: &[Name]) -> usize
-    ensures { IsShared first.now second.now result }
-{
-    let mut count = 0;
-    while count < first.len() && count < second.len() && first[count] == second[count] {
-        count += 1;
-    }
-    count
 }
 
 /// Returns whether the second path is greater than the first one, with which it shares so many names.

@@ -12,8 +12,8 @@ ghost use Rattle.pv_tree.specs.Slots.{IsForest, AreFree, child_in, next_number, 
 use crate::content::Content;
 use crate::slot::Slot;
 use crate::slots::{
-    change_slot, child_of, location, next_number, number_at, own_name, place, push_within,
-    put_child, remove_child, renew, set_node, touch,
+    Location, change_slot, child_of, directory_near, next_number, number_at, number_of, own_name,
+    place, push_within, put_child, remove_child, renew, set_node, touch,
 };
 use pv_path::{Bytes, Name, TreePath};
 use pv_steps::{Kind, Node, Object, Step};
@@ -81,30 +81,6 @@ fn name_next(
     Ok(number)
 }
 
-/// Adds an object at an absent path in a directory, and gives the slot number of the directory.
-///
-/// If memory runs out, the slots are as before.
-pub(crate) fn put(
-    alloc: Global,
-    slots: &mut Vec<Slot>,
-    free: &mut Vec<usize>,
-    path: &TreePath,
-    object: Object,
-) -> Result<usize, AllocError>
-    requires forest { IsForest slots.old.items }
-    requires free { AreFree slots.old.items free.old.items }
-    requires room { HasRoom (places_in slots.old.items) path.now }
-    ensures forest { IsForest slots.new.items }
-    ensures free { AreFree slots.new.items free.new.items }
-    ensures ok { OnOk result (places_in slots.new.items ≡ put_at path.now (Some object) (places_in slots.old.items)) }
-    ensures directory { IfOk result (λ k. number_in slots.new.items (parent_of path.now) ≡ Some k) }
-    ensures err { OnErr result (slots.new.items ≡ slots.old.items) }
-{
-    let (directory, _name) = location(slots, path);
-    put_below(alloc, slots, free, directory, path, object)?;
-    Ok(directory)
-}
-
 /// Adds a new object at an absent path in a directory, and sets the timestamps of this directory as for a change of
 /// its content.
 ///
@@ -113,20 +89,22 @@ pub(crate) fn make(
     alloc: Global,
     slots: &mut Vec<Slot>,
     free: &mut Vec<usize>,
-    path: &TreePath,
+    at: Location<'_>,
     object: Object,
     now: u64,
 ) -> Result<(), AllocError>
     requires forest { IsForest slots.old.items }
     requires free { AreFree slots.old.items free.old.items }
-    requires room { HasRoom (places_in slots.old.items) path.now }
+    requires room { HasRoom (places_in slots.old.items) at.path.now }
+    requires directory { number_in slots.old.items (parent_of at.path.now) ≡ Some at.directory }
     ensures forest { IsForest slots.new.items }
     ensures free { AreFree slots.new.items free.new.items }
-    ensures ok { OnOk result (places_in slots.new.items ≡ made now path.now object (places_in slots.old.items)) }
+    ensures ok { OnOk result (places_in slots.new.items ≡ made now at.entry.path.now object (places_in slots.old.items)) }
+    ensures directory { OnOk result (number_in slots.new.items (parent_of at.entry.path.now) ≡ Some at.entry.directory) }
     ensures err { OnErr result (slots.new.items ≡ slots.old.items) }
 {
-    let directory = put(alloc, slots, free, path, object)?;
-    touch(slots, directory, now);
+    put_below(alloc, slots, free, at.directory, at.path, object)?;
+    touch(slots, at.directory, now);
     Ok(())
 }
 
@@ -135,18 +113,20 @@ pub(crate) fn make(
 /// If memory runs out, the slots are as before.
 pub(crate) fn change_at(
     slots: &mut Vec<Slot>,
-    path: &TreePath,
+    at: Location<'_>,
     step: &Step,
     now: u64,
 ) -> Result<(), AllocError>
-    requires { IsForest slots.old.items }
+    requires forest { IsForest slots.old.items }
+    requires directory { number_in slots.old.items (parent_of at.path.now) ≡ Some at.directory }
     ensures forest { IsForest slots.new.items }
     ensures free { (free : List ℕ) → AreFree slots.old.items free → AreFree slots.new.items free }
     ensures ok { OnOk result
-        (places_in slots.new.items ≡ on_at path.now (change_of step.now now) (places_in slots.old.items)) }
+        (places_in slots.new.items ≡ on_at at.entry.path.now (change_of step.now now) (places_in slots.old.items)) }
+    ensures edges { child_in slots.new.items ≡ child_in slots.old.items }
     ensures err { OnErr result (slots.new.items ≡ slots.old.items) }
 {
-    match number_at(slots, path.names()) {
+    match number_of(slots, at) {
         Some(number) => change_slot(slots, number, step, now),
         None => Ok(()),
     }
@@ -158,6 +138,7 @@ pub(crate) fn set_node_at(slots: &mut Vec<Slot>, names: &[Name], node: Node)
     ensures forest { IsForest slots.new.items }
     ensures free { (free : List ℕ) → AreFree slots.old.items free → AreFree slots.new.items free }
     ensures places { places_in slots.new.items ≡ on_at names.now (with_node node) (places_in slots.old.items) }
+    ensures edges { child_in slots.new.items ≡ child_in slots.old.items }
 {
     match number_at(slots, names) {
         Some(number) => set_node(slots, number, node),
@@ -182,21 +163,22 @@ fn release(free: &mut Vec<usize>, number: Option<usize>)
 pub(crate) fn unmake(
     slots: &mut Vec<Slot>,
     free: &mut Vec<usize>,
-    path: &TreePath,
+    at: Location<'_>,
     now: u64,
 ) -> Result<(), AllocError>
     requires forest { IsForest slots.old.items }
     requires free { AreFree slots.old.items free.old.items }
-    requires removable { IsRemovable (places_in slots.old.items) path.now }
+    requires removable { IsRemovable (places_in slots.old.items) at.path.now }
+    requires directory { number_in slots.old.items (parent_of at.path.now) ≡ Some at.directory }
     ensures forest { IsForest slots.new.items }
     ensures free { AreFree slots.new.items free.new.items }
-    ensures ok { OnOk result (places_in slots.new.items ≡ gone now path.now (places_in slots.old.items)) }
+    ensures ok { OnOk result (places_in slots.new.items ≡ gone now at.entry.path.now (places_in slots.old.items)) }
+    ensures directory { OnOk result (number_in slots.new.items (parent_of at.entry.path.now) ≡ Some at.entry.directory) }
     ensures err { OnErr result (slots.new.items ≡ slots.old.items) }
 {
     free.reserve(1)?;
-    let (directory, name) = location(slots, path);
-    let number = remove_child(slots, directory, name);
-    touch(slots, directory, now);
+    let number = remove_child(slots, at.directory, own_name(at.path));
+    touch(slots, at.directory, now);
     release(free, number);
     Ok(())
 }
@@ -206,27 +188,29 @@ pub(crate) fn rename(
     slots: &mut Vec<Slot>,
     free: &mut Vec<usize>,
     from: &TreePath,
-    to: &TreePath,
+    to: Location<'_>,
     now: u64,
 ) -> Result<(), AllocError>
     requires forest { IsForest slots.old.items }
     requires free { AreFree slots.old.items free.old.items }
     requires tree { IsTreeIn (places_in slots.old.items) }
-    requires movable { Movable (places_in slots.old.items) from.now to.now }
+    requires movable { Movable (places_in slots.old.items) from.now to.path.now }
+    requires directory { number_in slots.old.items (parent_of to.path.now) ≡ Some to.directory }
     ensures forest { IsForest slots.new.items }
     ensures free { AreFree slots.new.items free.new.items }
-    ensures ok { OnOk result (places_in slots.new.items ≡ moved now from.now to.now (places_in slots.old.items)) }
+    ensures ok { OnOk result (places_in slots.new.items ≡ moved now from.now to.entry.path.now (places_in slots.old.items)) }
+    ensures directory { OnOk result (number_in slots.new.items (parent_of to.entry.path.now) ≡ Some to.entry.directory) }
     ensures err { OnErr result (slots.new.items ≡ slots.old.items) }
 {
     free.reserve(1)?;
-    let (source, old_name) = location(slots, from);
-    let (target, new_name) = location(slots, to);
+    let source = directory_near(slots, to, from);
+    let old_name = own_name(from);
     let Some(number) = child_of(slots, source, old_name) else {
         unreachable!();
     };
-    let replaced = put_child(slots, target, new_name.copy()?, number)?;
+    let replaced = put_child(slots, to.directory, own_name(to.path).copy()?, number)?;
     remove_child(slots, source, old_name);
-    touch(slots, target, now);
+    touch(slots, to.directory, now);
     touch(slots, source, now);
     renew(slots, number, now);
     release(free, replaced);

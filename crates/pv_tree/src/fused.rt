@@ -10,7 +10,7 @@ ghost use Rattle.pv_tree.specs.Fuses.{Burnt, burnt_refl, burnt_trans, one_less, 
 ghost use Rattle.std.proofs.Common.{arith};
 
 use crate::apply::parts_fit;
-use pv_path::{NameList, TreePath};
+use pv_path::{Name, NameList, TreePath};
 use pv_steps::{Node, Step, Tree, TreeFault};
 use std::alloc::{AllocError, Global};
 
@@ -82,6 +82,14 @@ impl<T: Tree> Tree for Fused<T> {
 
     fn look(&self, path: &TreePath) -> Option<&Node> {
         self.inner.look(path)
+    }
+
+    fn look_along(&self, alloc: Global, path: &TreePath) -> Result<Vec<&Node>, AllocError> {
+        self.inner.look_along(alloc, path)
+    }
+
+    fn has_beside(&self, path: &TreePath, names: &[Name]) -> bool {
+        self.inner.has_beside(path, names)
     }
 
     fn list(&self, alloc: Global, path: &TreePath) -> Result<NameList, AllocError> {

@@ -16,6 +16,7 @@ mod mem_tree;
 mod slot;
 mod slots;
 mod sought_name;
+mod step_log;
 mod walk;
 
 pub use apply::parts_fit;

@@ -15,9 +15,10 @@ ghost use Rattle.pv_tree.specs.Sole.{tree_prop};
 ghost use Rattle.pv_tree.specs.Slots.{files_of, IsTreeOf};
 
 use crate::apply::{do_told, parts_fit};
-use crate::edits::{put, set_node_at};
+use crate::edits::{put_below, set_node_at};
 use crate::slot::Slot;
-use crate::slots::{root_slots, slot_at, slot_of};
+use crate::slots::{has_beside, nodes_along, root_slots};
+use crate::step_log::{StepLog, directory_by, slot_at, slot_of};
 use crate::walk::Walk;
 use pv_path::{Bytes, Name, NameList, TreePath};
 use pv_steps::{Kind, Node, Object, Step, Tree, TreeFault};
@@ -35,21 +36,22 @@ pub struct MemTree {
     slots: Vec<Slot>,
     /// The numbers of the slots to which no path leads.
     free: Vec<usize>,
-    steps: Vec<Step>,
+    log: StepLog,
     ghost tree: { IsTree (files_of slots.items) } by { tree_prop (files_of slots.items) },
 }
 
 impl Model for MemTree {
     ghost use Rattle.pv_tree.specs.Held.{Held, held_code};
-    ghost use Rattle.pv_tree.specs.Slots.{files_of, IsTreeOf};
+    ghost use Rattle.pv_tree.specs.Near.{IsHeld};
+    ghost use Rattle.pv_tree.specs.Slots.{files_of};
 
     ghost Value = { Held };
 
     ghost coded = { held_code };
 
-    ghost view = { λ t. record { files = files_of t.slots.items; steps = t.steps.items; tree = t.tree } };
+    ghost view = { λ t. record { files = files_of t.slots.items; steps = t.log.steps.items; tree = t.tree } };
 
-    ghost invariant = { λ t. IsTreeOf t.slots.items t.free.items };
+    ghost invariant = { λ t. IsHeld t.slots.items t.free.items t.log.steps.items t.log.near };
 }
 
 impl MemTree {
@@ -77,7 +79,10 @@ impl MemTree {
             alloc,
             slots,
             free,
-            steps: Vec::new(alloc),
+            log: StepLog {
+                steps: Vec::new(alloc),
+                near: 0,
+            },
         }
     }
 
@@ -109,7 +114,15 @@ impl MemTree {
         ensures err { OnErr result (self.new ≡ self.old) }
     {
         let _names = path.names();
-        put(self.alloc, &mut self.slots, &mut self.free, path, object)?;
+        let directory = directory_by(&self.slots, &self.log, path);
+        put_below(
+            self.alloc,
+            &mut self.slots,
+            &mut self.free,
+            directory,
+            path,
+            object,
+        )?;
         Ok(())
     }
 
@@ -118,7 +131,7 @@ impl MemTree {
         ensures node { option_copied result ≡ node_at self.now.files path.now }
         ensures tree { IsTree self.now.files }
     {
-        match slot_at(&self.slots, path) {
+        match slot_at(&self.slots, &self.log, path) {
             Some(slot) => Some(&slot.node),
             None => None,
         }
@@ -132,7 +145,7 @@ impl MemTree {
         ensures kind { result ≡ kind_of (places self.now.files names.now) }
         ensures tree { IsTree self.now.files }
     {
-        match slot_of(&self.slots, names) {
+        match slot_of(&self.slots, &self.log, names) {
             Some(slot) => Some(slot.node.kind),
             None => None,
         }
@@ -156,7 +169,7 @@ impl MemTree {
         requires { IsKind Directory self.now.files path.now }
         ensures { IfOk result (λ names. names ≡ names_below self.now.files path.now) }
     {
-        match slot_at(&self.slots, path) {
+        match slot_at(&self.slots, &self.log, path) {
             Some(slot) => slot.content.names(alloc),
             None => unreachable!(),
         }
@@ -169,7 +182,7 @@ impl MemTree {
     pub fn payload_at(&self, path: &TreePath) -> Option<&[u8]>
         ensures { option_copied result ≡ payload_at self.now.files path.now }
     {
-        match slot_at(&self.slots, path) {
+        match slot_at(&self.slots, &self.log, path) {
             Some(slot) => Some(slot.content.payload()),
             None => None,
         }
@@ -187,7 +200,7 @@ impl MemTree {
     pub fn step_count(&self) -> usize
         ensures { result ≡ length self.now.steps }
     {
-        self.steps.len()
+        self.log.steps.len()
     }
 }
 
@@ -207,6 +220,14 @@ impl Tree for MemTree {
         ensures tree { IsTree self.now.files }
     {
         self.node_at(path)
+    }
+
+    fn look_along(&self, alloc: Global, path: &TreePath) -> Result<Vec<&Node>, AllocError> {
+        nodes_along(alloc, &self.slots, path.names())
+    }
+
+    fn has_beside(&self, path: &TreePath, names: &[Name]) -> bool {
+        has_beside(&self.slots, path.names(), names)
     }
 
     fn list(&self, alloc: Global, path: &TreePath) -> Result<NameList, AllocError> {
@@ -244,7 +265,7 @@ impl Tree for MemTree {
             self.alloc,
             &mut self.slots,
             &mut self.free,
-            &mut self.steps,
+            &mut self.log,
             step,
             now,
         )

@@ -1,15 +1,17 @@
 //! The slots of the tree: where a path leads among them, and the edits of one slot.
-ghost use Rattle.std.specs.Prelude.{◌≡◌, ◌≢◌, ℕ, ◌+◌, ◌-◌, ◌<◌, ◌≤◌, List, [], ◌∷◌, ◌++◌, length, take, vec_len, vec_capacity, Some, None, IfOk, OnOk, OnErr, slice_get};
+ghost use Rattle.std.specs.Prelude.{◌≡◌, ◌≢◌, ℕ, ◌+◌, ◌-◌, ◌<◌, ◌≤◌, List, [], ◌∷◌, ◌++◌, length, take, vec_len, vec_capacity, Some, None, is_some, IfOk, OnOk, OnErr, slice_get};
+ghost use Rattle.std.specs.List.{list_any};
 ghost use Rattle.std.specs.Option.{option_copied, option_map};
 ghost use Rattle.std.specs.FinMap as fin;
 ghost use Rattle.pv_path.specs.Paths.{parent_of};
 ghost use Rattle.pv_steps.specs.declared.node.Kind.TheVariants.{Directory};
 ghost use Rattle.pv_steps.specs.Objects.{IsObject, is_directory, modified, changed};
-ghost use Rattle.pv_steps.specs.Trees.{IsPresentIn};
+ghost use Rattle.pv_steps.specs.Trees.{IsPresentIn, beside};
 ghost use Rattle.pv_tree.specs.Changes.{change_of, with_node};
-ghost use Rattle.pv_tree.specs.Edges.{IsSet, IsChanged, IsPlaced};
+ghost use Rattle.pv_tree.specs.Edges.{led, IsSet, IsChanged, IsPlaced};
+ghost use Rattle.pv_tree.specs.Growth.{IsShared};
 ghost use Rattle.pv_tree.specs.Held.{root_alone};
-ghost use Rattle.pv_tree.specs.Slots.{child_in, files_of, object_in, object_of, number_in, slot_in, places_in, next_number, IsTreeOf};
+ghost use Rattle.pv_tree.specs.Slots.{child_in, child_of_slot, files_of, object_in, object_of, number_in, places_in, next_number, IsTreeOf};
 
 use crate::content::Content;
 use crate::slot::{Slot, change, note_content, note_name, put_node};
@@ -27,15 +29,56 @@ pub(crate) fn child_of(slots: &Vec<Slot>, number: usize, name: &Name) -> Option<
     }
 }
 
-/// The number at the path of some names, or nothing if it is absent. It asks each directory once.
-pub(crate) fn number_at(slots: &Vec<Slot>, names: &[Name]) -> Option<usize>
-    ensures { result ≡ number_in slots.now.items names.now }
+/// The number to which some names lead from a number, or nothing if they lead nowhere. It asks each directory once.
+fn number_from(slots: &Vec<Slot>, start: usize, names: &[Name]) -> Option<usize>
+    ensures { result ≡ led (child_in slots.now.items) start names.now }
 {
-    let mut number = 0;
+    let mut number = start;
     for name in names {
         number = child_of(slots, number, name)?;
     }
     Some(number)
+}
+
+/// The number at the path of some names, or nothing if it is absent. It asks each directory once.
+pub(crate) fn number_at(slots: &Vec<Slot>, names: &[Name]) -> Option<usize>
+    ensures { result ≡ number_in slots.now.items names.now }
+{
+    number_from(slots, 0, names)
+}
+
+/// Counts the names that two paths share at their beginning.
+pub(crate) fn shared_names(first: &[Name], second: &[Name]) -> usize
+    ensures { IsShared first.now second.now result }
+{
+    let mut count = 0;
+    while count < first.len() && count < second.len() && first[count] == second[count] {
+        count += 1;
+    }
+    count
+}
+
+/// The number at the path of some names, or nothing if it is absent. If the path of the names `known` is a prefix, only
+/// the directories below it are asked. Its number is `start`.
+///
+/// Comparing names is far cheaper than asking directories.
+pub(crate) fn number_near(
+    slots: &Vec<Slot>,
+    known: &[Name],
+    start: usize,
+    names: &[Name],
+) -> Option<usize>
+    requires { number_in slots.now.items known.now ≡ Some start }
+    ensures { result ≡ number_in slots.now.items names.now }
+{
+    if names.len() < known.len() {
+        return number_at(slots, names);
+    }
+    let shared = shared_names(known, names);
+    if shared < known.len() {
+        return number_at(slots, names);
+    }
+    number_from(slots, start, &names[shared..])
 }
 
 /// Whether the object with a number is a directory.
@@ -46,25 +89,62 @@ pub(crate) fn is_directory_in(slots: &Vec<Slot>, number: usize) -> bool
     slots[number].node.kind.is_directory()
 }
 
-/// The slot at the path of some names, or nothing if it is absent.
-pub(crate) fn slot_of<'a>(slots: &'a Vec<Slot>, names: &[Name]) -> Option<&'a Slot>
-    ensures { option_copied result ≡ slot_in slots.now.items names.now }
+/// The slot of the child that a slot has by a name, or nothing if it has none.
+fn child_slot<'a>(slots: &'a Vec<Slot>, slot: &Slot, name: &Name) -> Option<&'a Slot>
+    ensures { option_copied result ≡ child_of_slot slots.now.items slot.now name.now }
 {
-    match number_at(slots, names) {
+    match slot.content.get(name) {
         Some(number) => slots.get(number),
         None => None,
     }
 }
 
-/// The slot at a path, or nothing if the path is absent.
-pub(crate) fn slot_at<'a>(slots: &'a Vec<Slot>, path: &TreePath) -> Option<&'a Slot>
-    ensures { option_copied result ≡ slot_in slots.now.items path.now }
+/// The nodes of the objects along some names: at index `k` the node at the first `k` of them. The list ends before the
+/// first of them that is absent. It asks each directory once.
+pub(crate) fn nodes_along<'a>(
+    alloc: Global,
+    slots: &'a Vec<Slot>,
+    names: &[Name],
+) -> Result<Vec<&'a Node>, AllocError>
+    ensures nodes { IfOk result (λ nodes. (k : ℕ) → k ≤ length names.now
+        → option_copied (slice_get nodes.items k) ≡ option_map (λ o. o.node) (places_in slots.now.items (take k names.now))) }
+    ensures length { IfOk result (λ nodes. length nodes.items ≤ length names.now + 1) }
 {
-    slot_of(slots, path.names())
+    let mut nodes = Vec::with_capacity(alloc, names.len() + 1)?;
+    let mut place = slots.first();
+    for name in names {
+        let Some(slot) = place else {
+            return Ok(nodes);
+        };
+        nodes.push(&slot.node)?;
+        place = child_slot(slots, slot, name);
+    }
+    if let Some(slot) = place {
+        nodes.push(&slot.node)?;
+    }
+    Ok(nodes)
+}
+
+/// Whether one of the directories along some names has a child by the name that is given for it. It asks each directory
+/// for two names at most.
+pub(crate) fn has_beside(slots: &Vec<Slot>, names: &[Name], others: &[Name]) -> bool
+    ensures { result ≡ list_any (λ p. is_some (number_in slots.now.items p)) (beside names.now others.now) }
+{
+    let mut number = 0;
+    for (name, other) in names.iter().zip(others) {
+        if child_of(slots, number, other).is_some() {
+            return true;
+        }
+        match child_of(slots, number, name) {
+            Some(child) => number = child,
+            None => return false,
+        }
+    }
+    false
 }
 
 /// The names of the directory that a path lies in.
-fn parent_names(path: &TreePath) -> &[Name]
+pub(crate) fn parent_names(path: &TreePath) -> &[Name]
     ensures { result.now ≡ parent_of path.now }
 {
     match path.names() {
@@ -73,15 +153,37 @@ fn parent_names(path: &TreePath) -> &[Name]
     }
 }
 
-/// The number of the directory that a path lies in, and the last name of the path.
-pub(crate) fn location<'a>(slots: &Vec<Slot>, path: &'a TreePath) -> (usize, &'a Name)
-    requires present { IsPresentIn (places_in slots.now.items) (parent_of path.now) }
-    requires no_root { path.now ≢ [] }
-    ensures number { number_in slots.now.items (parent_of path.now) ≡ Some result.0 }
-    ensures name { path.now ≡ parent_of path.now ++ result.1.now ∷ [] }
+/// A path, and the number of the directory that it lies in.
+#[derive(Clone, Copy)]
+pub(crate) struct Location<'a> {
+    pub path: &'a TreePath,
+    pub directory: usize,
+}
+
+/// The number at a path, or nothing if it is absent.
+pub(crate) fn number_of(slots: &Vec<Slot>, at: Location<'_>) -> Option<usize>
+    requires { number_in slots.now.items (parent_of at.path.now) ≡ Some at.directory }
+    ensures { result ≡ number_in slots.now.items at.entry.path.now }
 {
-    match number_at(slots, parent_names(path)) {
-        Some(number) => (number, own_name(path)),
+    match at.path.name() {
+        Some(name) => child_of(slots, at.directory, name),
+        None => Some(at.directory),
+    }
+}
+
+/// The number of the directory that another path lies in.
+pub(crate) fn directory_near(slots: &Vec<Slot>, at: Location<'_>, path: &TreePath) -> usize
+    requires directory { number_in slots.now.items (parent_of at.path.now) ≡ Some at.directory }
+    requires present { IsPresentIn (places_in slots.now.items) (parent_of path.now) }
+    ensures { number_in slots.now.items (parent_of path.now) ≡ Some result }
+{
+    match number_near(
+        slots,
+        parent_names(at.path),
+        at.directory,
+        parent_names(path),
+    ) {
+        Some(number) => number,
         None => unreachable!(),
     }
 }

@@ -16,14 +16,15 @@ pub(crate) struct SoughtName<'a> {
 }
 
 impl<'a> Model for SoughtName<'a> {
-    ghost use Rattle.std.specs.Prelude.{List, ℕ};
-    ghost use Rattle.pv_tree.specs.Heads.{IsHead};
+    ghost use Rattle.std.specs.Prelude.{◌≡◌, List, ℕ, true};
+    ghost use Rattle.pv_path.specs.Heads.{head_of};
+    ghost use Rattle.pv_path.specs.Names.{is_name};
 
     ghost Value = { List ℕ };
 
     ghost view = { λ s. s.name.now };
 
-    ghost invariant = { λ s. IsHead s.head s.name.now };
+    ghost invariant = { λ s. (s.head ≡ head_of s.name.now) × (is_name s.name.now ≡ true) };
 }
 
 impl<'a> SoughtName<'a> {
@@ -39,7 +40,7 @@ impl<'a> SoughtName<'a> {
 
     /// Compares a name with the one that is sought. The bytes are compared only if the heads are equal and each name has
     /// eight bytes or more.
-    #[tactic(auto, using(crate::proofs::HeadLaws::told_less, crate::proofs::HeadLaws::told_greater, crate::proofs::HeadLaws::told_equal))]
+    #[tactic(auto, using(pv_path::proofs::HeadLaws::told_less, pv_path::proofs::HeadLaws::told_greater, pv_path::proofs::HeadLaws::told_equal))]
     pub(crate) fn order_of(&self, name: &Name) -> Ordering
         ensures { result ≡ name_cmp name.now self.now }
     {

@@ -1,7 +1,7 @@
 use Rattle.std.proofs.Common.{sym, ◌∙◌, arith}
 use Rattle.pv_path.proofs.PathLaws.{same_bytes-decides}
 use Rattle.pv_tree.proofs.GrowthLaws.{count_more, ends_apart, ends_first, ends_second}
-use Rattle.pv_tree.proofs.builder.shared_names.Goals as goal
+use Rattle.pv_tree.proofs.slots.shared_names.Goals as goal
 
 pub loop-count-preserved : goal.loop-count-preserved
 loop-count-preserved c = record {
