@@ -1,10 +1,11 @@
 -- Laws of the changes that metadata makes.
-use Rattle.std.specs.Prelude.{◌≡◌, ◌≢◌, ℕ, ◌/◌, ◌%◌, ◌≤◌, true, false, cond, ◌&&◌, Option, Some, None, is_some, option_map, Result, Ok, Err, IsErrAnd, OnOk, [], ◌⊎◌}
+use Rattle.std.specs.Prelude.{◌≡◌, ◌≢◌, ◌↔◌, IsTrue, ℕ, Bool, List, ◌/◌, ◌%◌, ◌≤◌, true, false, cond, ◌&&◌, Option, Some, None, is_some, option_map, Result, Ok, Err, IsErrAnd, OnOk, [], ◌⊎◌}
 use Rattle.std.proofs.Common.{refl, sym, ap, subst, ◌∙◌, inl, inr, arith}
 use Rattle.std.proofs.lemmas.Bool.{and_parts}
 use Rattle.std.proofs.lemmas.Option.{same_Some}
 use Rattle.pv_path.specs.Paths.{Path, same_path}
 use Rattle.pv_acl.specs.declared.part.Part.{Part}
+use Rattle.pv_acl.specs.declared.perm.Named.{Named}
 use Rattle.pv_acl.specs.NamedEntries.{is_perm}
 use Rattle.pv_acl.specs.Parts as parts
 use Rattle.pv_acl.specs.Parts.{is_part, mode_of}
@@ -29,7 +30,7 @@ use Rattle.pv_steps.specs.Same.{object_states, Differ}
 use Rattle.pv_walk.specs.declared.object_state.Metadata.{Metadata}
 use Rattle.pv_walk.proofs.EditLaws.{put_at-here, put_at-same, put_at-twice, on_at-here, on_at-put, on_at-twice, object_states-on_at, object_states-on_both, object_states-stamped}
 use Rattle.pv_walk.specs.SettingMetadata.{IsMetadata, CanSetMetadata, metadata_mode, with_metadata, with_owner_of, with_mode_of, with_acl_of, with_attrs_of, with_letters_of, Lacks, SettingMetadata, GivesMetadata, IsChanged, IsKeptBy, ChangedAt}
-use Rattle.pv_walk.specs.Changing.{HasOwner, HasMode, Changing, Gives, GivesAcl, GivesAttrs, GivesLetters, with_access_of}
+use Rattle.pv_walk.specs.Changing.{HasOwner, HasMode, HasExtended, Changing, Gives, GivesAcl, GivesAttrs, GivesLetters, with_access_of, with_extended_of}
 use Rattle.pv_acl.proofs.Allowed.{perm_fits}
 
 -- ---- objects
@@ -215,6 +216,23 @@ sets_metadata_acl new o e = λ i. record o { node = record o.node { acl = sym e 
 pub acl_worn : (new : Metadata) (o : Object) → with_acl_of new o ≡ o → o.node.acl ≡ new.acl
 acl_worn new o e = sym (ap (λ x. x.node.acl) e)
 
+pub sets_metadata_extended : (new : Metadata) (o : Object) → HasExtended new o.node → with_extended_of new o ≡ o
+sets_metadata_extended new o h = λ i. record o {
+  node = record o.node {
+    acl = record {
+      access = record o.node.acl.access { mask = sym h.mask i; named = sym h.named i };
+      default_part = sym h.default_part i;
+    };
+  };
+}
+
+pub extended_worn : (new : Metadata) (o : Object) → with_extended_of new o ≡ o → HasExtended new o.node
+extended_worn new o e = record {
+  mask = sym (ap (λ x. x.node.acl.access.mask) e);
+  named = sym (ap (λ x. x.node.acl.access.named) e);
+  default_part = sym (ap (λ x. x.node.acl.default_part) e);
+}
+
 pub firm_owner : (new : Metadata) (o : Object) → with_mode_of new (with_owner_of new o) ≡ o → with_owner_of new o ≡ o
 firm_owner new o e = sets_metadata_owner new o (record { uid = sym (ap (λ x. x.node.uid) e); gid = sym (ap (λ x. x.node.gid) e) })
 
@@ -250,21 +268,21 @@ link_mode new o n h =
 link_acl : (new : Metadata) (o : Object) → AclFits Link new.special new.acl → AclFits Link o.node.special o.node.acl → o.node.acl ≡ new.acl
 link_acl new o n h = h.1 ∙ sym n.1
 
--- ---- the object that stands at a path, and the node that is seen there
+-- ---- the object at a path, and the changes that it keeps
 
-module _ (path : Path) (new : Metadata) (t : Files) (can : CanSetMetadata t path new) (node : Node) (seen : Some node ≡ node_at t path) where
-  standing : (o : Object) × ((places t path ≡ Some o) × (node ≡ o.node))
+module _ (path : Path) (new : Metadata) (t : Files) (can : CanSetMetadata t path new) where
+  standing : (o : Object) × (places t path ≡ Some o)
   standing = by (places t path) refl
     where
-      by : (v : Option Object) → places t path ≡ v → (o : Object) × ((places t path ≡ Some o) × (node ≡ o.node))
-      by None e = let wrong : Some node ≡ None = seen ∙ ap (option_map (λ o. o.node)) e in cc
-      by (Some o) e = let same : Some node ≡ Some o.node = seen ∙ ap (option_map (λ o. o.node)) e in (o, (e, cc))
+      by : (v : Option Object) → places t path ≡ v → (o : Object) × (places t path ≡ Some o)
+      by None e = let wrong : None ≡ Some can.kind = sym (ap kind_of e) ∙ can.there in cc
+      by (Some o) e = (o, e)
 
   abbrev object : Object
   object = standing.0
 
   there : places t path ≡ Some object
-  there = standing.1.0
+  there = standing.1
 
   pub present : IsPresentIn (places t) path
   present = ap is_some there
@@ -272,33 +290,35 @@ module _ (path : Path) (new : Metadata) (t : Files) (can : CanSetMetadata t path
   kind_is : object.node.kind ≡ can.kind
   kind_is = let e : Some object.node.kind ≡ Some can.kind = sym (ap kind_of there) ∙ can.there in cc
 
-  has_owner : HasOwner new node → HasOwner new object.node
-  has_owner h = subst (HasOwner new) standing.1.1 h
+  -- what is kept is set without a step
+  pub kept_none : (change : Object → Object) → IsKeptBy change path t → (now : ℕ) → ChangedAt change path now t t
+  kept_none change kept now = changed_none path change now t object there (kept object there) t refl
 
-  no_owner : (HasOwner new node → ⊥) → with_owner_of new object ≢ object
-  no_owner other e = other (subst (HasOwner new) (sym standing.1.1) (owner_worn new object e))
+  other_object : (change : Object → Object) → (IsKeptBy change path t → ⊥) → change object ≢ object
+  other_object change other e = other (λ o f. let same : object ≡ o = same_Some object o (sym there ∙ f) in subst (λ x. change x ≡ x) same e)
+
+  -- an object keeps a change where its node, as it was seen, has what the change gives
+  pub kept_as_seen : (change : Object → Object) (Has : Node → Type 0) → ((o : Object) → Has o.node → change o ≡ o) → ((o : Object) → change o ≡ o → Has o.node)
+      → (node : Node) → Some node ≡ node_at t path → (kept : Bool) → (IsTrue kept ↔ Has node) → (IsTrue kept ↔ IsKeptBy change path t)
+  kept_as_seen change Has wears worn node seen kept h = (
+    λ yes o e. let same : Some node ≡ Some o.node = seen ∙ ap (option_map (λ x. x.node)) e in wears o (subst Has (same_Some node o.node same) (h.0 yes)),
+    λ keeps.
+        let same : Some object.node ≡ Some node = sym (seen ∙ ap (option_map (λ x. x.node)) there) in
+        h.1 (subst Has (same_Some object.node node same) (worn object (keeps object there))),
+  )
 
   -- ---- owners
 
-  pub owner_none : (now : ℕ) → HasOwner new node → ChangedAt (with_owner_of new) path now t t
-  owner_none now h = changed_none path (with_owner_of new) now t object there (sets_metadata_owner new object (has_owner h)) t refl
-
-  module _ (now : ℕ) (other : HasOwner new node → ⊥) where
+  module _ (now : ℕ) (other : IsKeptBy (with_owner_of new) path t → ⊥) where
     pub owner_asks : Asks (Changing path (with_owner_of new) t) (λ step. step ≡ SetOwner path new.uid new.gid) t (SetOwner path new.uid new.gid) now
     owner_asks =
         change_asks path (with_owner_of new) now t object there (SetOwner path new.uid new.gid) refl
-        (λ step. step ≡ SetOwner path new.uid new.gid) (λ o. refl) (no_owner other) (present, can.metadata.owner) (λ d. d) refl
+        (λ step. step ≡ SetOwner path new.uid new.gid) (λ o. refl) (other_object (with_owner_of new) other) (present, can.metadata.owner) (λ d. d) refl
 
     pub owner_ok : (r : Result (Unit {0}) TreeFault) (u : Files) → OnOk r (u ≡ after t (SetOwner path new.uid new.gid) now) → OnOk r (ChangedAt (with_owner_of new) path now t u)
-    owner_ok r u done = changed_on path (with_owner_of new) now t object there (SetOwner path new.uid new.gid) refl (no_owner other) r u done
+    owner_ok r u done = changed_on path (with_owner_of new) now t object there (SetOwner path new.uid new.gid) refl (other_object (with_owner_of new) other) r u done
 
   -- ---- modes
-
-  no_mode : (HasMode new node → ⊥) → with_mode_of new object ≢ object
-  no_mode other e = other (subst (HasMode new) (sym standing.1.1) (mode_worn can.kind new can.metadata object e))
-
-  pub mode_none : (now : ℕ) → HasMode new node → ChangedAt (with_mode_of new) path now t t
-  mode_none now h = changed_none path (with_mode_of new) now t object there (sets_metadata_mode can.kind new can.metadata object (subst (HasMode new) standing.1.1 h)) t refl
 
   -- what is not the mode or the ACL of the metadata stands at no link
   module _ (tree : IsTree t) where
@@ -309,14 +329,28 @@ module _ (path : Path) (new : Metadata) (t : Files) (can : CanSetMetadata t path
           subst (λ v. AclFits v object.node.special object.node.acl) (kind_is ∙ of_can) (tree.objects path object there).kind_acl,
         )
 
-    mode_no_link : (HasMode new node → ⊥) → kind_of (places t path) ≢ Some Link
-    mode_no_link other e = let both = link_fits e in other (subst (HasMode new) (sym standing.1.1) (link_mode new object both.0 both.1))
+    module _ (now : ℕ) (other : IsKeptBy (with_mode_of new) path t → ⊥) (mode : ℕ) (is : mode ≡ metadata_mode new) where
+      no_mode : with_mode_of new object ≢ object
+      no_mode = other_object (with_mode_of new) other
 
-    acl_no_link : node.acl ≢ new.acl → kind_of (places t path) ≢ Some Link
-    acl_no_link other e = let both = link_fits e in other (ap (λ v. v.acl) standing.1.1 ∙ link_acl new object both.0 both.1)
+      mode_no_link : kind_of (places t path) ≢ Some Link
+      mode_no_link e = let both = link_fits e in no_mode (sets_metadata_mode can.kind new can.metadata object (link_mode new object both.0 both.1))
 
-    pub can_mode : (HasMode new node → ⊥) → Can (places t) (SetMode path (metadata_mode new))
-    can_mode other = ((present, mode_no_link other), mode_bound can.kind new can.metadata)
+      can_mode : Can (places t) (SetMode path (metadata_mode new))
+      can_mode = ((present, mode_no_link), mode_bound can.kind new can.metadata)
+
+      pub mode_asks : Asks (Changing path (with_mode_of new) t) (λ step. step ≡ SetMode path (metadata_mode new)) t (SetMode path mode) now
+      mode_asks =
+          subst (λ m. Asks (Changing path (with_mode_of new) t) (λ step. step ≡ SetMode path (metadata_mode new)) t (SetMode path m) now) (sym is)
+          (change_asks path (with_mode_of new) now t object there (SetMode path (metadata_mode new)) (mode_leaves can.kind new can.metadata path now (places t))
+          (λ step. step ≡ SetMode path (metadata_mode new)) (λ o. refl) no_mode can_mode (λ d. d) refl)
+
+      pub mode_ok : (r : Result (Unit {0}) TreeFault) (u : Files) → OnOk r (u ≡ after t (SetMode path mode) now) → OnOk r (ChangedAt (with_mode_of new) path now t u)
+      mode_ok r u done =
+          changed_on path (with_mode_of new) now t object there (SetMode path (metadata_mode new)) (mode_leaves can.kind new can.metadata path now (places t)) no_mode r u
+          (subst (λ m. OnOk r (u ≡ after t (SetMode path m) now)) is done)
+
+    -- ---- ACLs
 
     takes_acl : (kind : Kind) → kind_of (places t path) ≡ Some kind → (kind ≡ Link → ⊥) → AclFits kind new.special new.acl → TakesAcl (places t) path new.acl
     takes_acl Directory e real h = inr e
@@ -326,50 +360,17 @@ module _ (path : Path) (new : Metadata) (t : Files) (can : CanSetMetadata t path
     takes_acl CharDevice e real h = inl h
     takes_acl BlockDevice e real h = inl h
 
-    pub can_acl : node.acl ≢ new.acl → Can (places t) (SetAcl path new.acl)
-    can_acl other =
-        let real = acl_no_link other in
-        ((present, real), (takes_acl can.kind can.there (λ e. real (can.there ∙ ap Some e)) can.metadata.fits, can.metadata.acl))
+    module _ (other : IsKeptBy (with_acl_of new) path t → ⊥) where
+      acl_no_link : kind_of (places t path) ≢ Some Link
+      acl_no_link e = let both = link_fits e in other_object (with_acl_of new) other (sets_metadata_acl new object (link_acl new object both.0 both.1))
 
-    module _ (now : ℕ) (other : HasMode new node → ⊥) (mode : ℕ) (is : mode ≡ metadata_mode new) where
-      pub mode_asks : Asks (Changing path (with_mode_of new) t) (λ step. step ≡ SetMode path (metadata_mode new)) t (SetMode path mode) now
-      mode_asks =
-          subst (λ m. Asks (Changing path (with_mode_of new) t) (λ step. step ≡ SetMode path (metadata_mode new)) t (SetMode path m) now) (sym is)
-          (change_asks path (with_mode_of new) now t object there (SetMode path (metadata_mode new)) (mode_leaves can.kind new can.metadata path now (places t))
-          (λ step. step ≡ SetMode path (metadata_mode new)) (λ o. refl) (no_mode other) (can_mode other) (λ d. d) refl)
+      pub can_acl : Can (places t) (SetAcl path new.acl)
+      can_acl = ((present, acl_no_link), (takes_acl can.kind can.there (λ e. acl_no_link (can.there ∙ ap Some e)) can.metadata.fits, can.metadata.acl))
 
-      pub mode_ok : (r : Result (Unit {0}) TreeFault) (u : Files) → OnOk r (u ≡ after t (SetMode path mode) now) → OnOk r (ChangedAt (with_mode_of new) path now t u)
-      mode_ok r u done =
-          changed_on path (with_mode_of new) now t object there (SetMode path (metadata_mode new)) (mode_leaves can.kind new can.metadata path now (places t)) (no_mode other) r u
-          (subst (λ m. OnOk r (u ≡ after t (SetMode path m) now)) is done)
+    -- ---- extended attributes
 
-    module _ (now : ℕ) (other : node.acl ≢ new.acl) where
-      no_acl : with_acl_of new object ≢ object
-      no_acl e = other (ap (λ v. v.acl) standing.1.1 ∙ acl_worn new object e)
-
-      other_acl : (o : Object) → places t path ≡ Some o → o.node.acl ≢ new.acl
-      other_acl o e h = let same : object ≡ o = same_Some object o (sym there ∙ e) in other (ap (λ v. v.acl) standing.1.1 ∙ ap (λ v. v.node.acl) same ∙ h)
-
-      pub acl_asks : Asks (Changing path (with_acl_of new) t) (GivesAcl path new t) t (SetAcl path new.acl) now
-      acl_asks =
-          change_asks path (with_acl_of new) now t object there (SetAcl path new.acl) refl
-          (GivesAcl path new t) (λ o. refl) no_acl (can_acl other) (λ d. d) (record { is = refl; other = other_acl })
-
-      pub acl_ok : (r : Result (Unit {0}) TreeFault) (u : Files) → OnOk r (u ≡ after t (SetAcl path new.acl) now) → OnOk r (ChangedAt (with_acl_of new) path now t u)
-      acl_ok r u done = changed_on path (with_acl_of new) now t object there (SetAcl path new.acl) refl no_acl r u done
-
-  -- ---- extended attributes, and letters
-
-  module _ (tree : IsTree t) where
     of_kind : (kind : Kind) → kind_of (places t path) ≡ Some kind → can.kind ≡ kind
     of_kind kind e = let both : Some can.kind ≡ Some kind = sym can.there ∙ e in cc
-
-    attrs_no_link : node.attrs ≢ new.attrs → kind_of (places t path) ≢ Some Link
-    attrs_no_link other e =
-        let is = of_kind Link e in
-        let a : new.attrs ≡ [] = subst (λ v. AttrsFit v new.attrs) is can.metadata.attrs in
-        let b : object.node.attrs ≡ [] = subst (λ v. AttrsFit v object.node.attrs) (kind_is ∙ is) (tree.objects path object there).attrs in
-        other (ap (λ v. v.attrs) standing.1.1 ∙ b ∙ sym a)
 
     are_new : (kind : Kind) → (kind ≡ Link → ⊥) → AttrsFit kind new.attrs → are_attrs new.attrs ≡ true
     are_new Directory real h = h
@@ -379,51 +380,54 @@ module _ (path : Path) (new : Metadata) (t : Files) (can : CanSetMetadata t path
     are_new CharDevice real h = h
     are_new BlockDevice real h = h
 
-    pub can_attrs : node.attrs ≢ new.attrs → Can (places t) (SetAttrs path new.attrs)
-    can_attrs other = let real = attrs_no_link other in ((present, real), are_new can.kind (λ e. real (can.there ∙ ap Some e)) can.metadata.attrs)
+    module _ (other : IsKeptBy (with_attrs_of new) path t → ⊥) where
+      attrs_no_link : kind_of (places t path) ≢ Some Link
+      attrs_no_link e =
+          let is = of_kind Link e in
+          let a : new.attrs ≡ [] = subst (λ v. AttrsFit v new.attrs) is can.metadata.attrs in
+          let b : object.node.attrs ≡ [] = subst (λ v. AttrsFit v object.node.attrs) (kind_is ∙ is) (tree.objects path object there).attrs in
+          other_object (with_attrs_of new) other (sets_metadata_attrs new object (b ∙ sym a))
 
-    no_letters : (kind : Kind) → can.kind ≡ kind → ((l : ℕ) → LettersFit kind l → l ≡ 0) → node.letters ≡ new.letters
-    no_letters kind e zero =
-        ap (λ v. v.letters) standing.1.1 ∙ zero object.node.letters (subst (λ v. LettersFit v object.node.letters) (kind_is ∙ e) (tree.objects path object there).letters)
-        ∙ sym (zero new.letters (subst (λ v. LettersFit v new.letters) e can.metadata.letters))
+      pub can_attrs : Can (places t) (SetAttrs path new.attrs)
+      can_attrs = ((present, attrs_no_link), are_new can.kind (λ e. attrs_no_link (can.there ∙ ap Some e)) can.metadata.attrs)
 
-    pub can_letters : node.letters ≢ new.letters → Can (places t) (SetLetters path new.letters)
-    can_letters other = by can.kind refl
-      where
-        by : (kind : Kind) → can.kind ≡ kind → IsKindIn File (places t) path ⊎ IsKindIn Directory (places t) path
-        by File e = inl (can.there ∙ ap Some e)
-        by Directory e = inr (can.there ∙ ap Some e)
-        by Link e = absurd (other (no_letters Link e (λ l h. h)))
-        by Fifo e = absurd (other (no_letters Fifo e (λ l h. h)))
-        by CharDevice e = absurd (other (no_letters CharDevice e (λ l h. h)))
-        by BlockDevice e = absurd (other (no_letters BlockDevice e (λ l h. h)))
+    -- ---- file attribute flags
+
+    module _ (other : IsKeptBy (with_letters_of new) path t → ⊥) where
+      letters_zero : (kind : Kind) → can.kind ≡ kind → ((l : ℕ) → LettersFit kind l → l ≡ 0) → ⊥
+      letters_zero kind e zero =
+          other_object (with_letters_of new) other (sets_metadata_letters new object
+          (zero object.node.letters (subst (λ v. LettersFit v object.node.letters) (kind_is ∙ e) (tree.objects path object there).letters)
+          ∙ sym (zero new.letters (subst (λ v. LettersFit v new.letters) e can.metadata.letters))))
+
+      pub can_letters : Can (places t) (SetLetters path new.letters)
+      can_letters = by can.kind refl
+        where
+          by : (kind : Kind) → can.kind ≡ kind → IsKindIn File (places t) path ⊎ IsKindIn Directory (places t) path
+          by File e = inl (can.there ∙ ap Some e)
+          by Directory e = inr (can.there ∙ ap Some e)
+          by Link e = absurd (letters_zero Link e (λ l h. h))
+          by Fifo e = absurd (letters_zero Fifo e (λ l h. h))
+          by CharDevice e = absurd (letters_zero CharDevice e (λ l h. h))
+          by BlockDevice e = absurd (letters_zero BlockDevice e (λ l h. h))
 
   -- one part of a node, which a step gives where the object lacks it
-  module _ {A : Type 0} (part : Node → A) (wanted : A) (change : Object → Object) (keeps : Keeps change) (wears : (o : Object) → part o.node ≡ wanted → change o ≡ o) (worn : (o : Object) → change o ≡ o → part o.node ≡ wanted)
-      (step : Step) (leaves : (now : ℕ) → after_at (places t) step now ≡ on_at path (λ x. changed now (change x)) (places t)) (busy : (now : ℕ) → Differ t (after t step now) → HasEffect t step now) where
-    pub part_none : (now : ℕ) → part node ≡ wanted → ChangedAt change path now t t
-    part_none now h = changed_none path change now t object there (wears object (sym (ap part standing.1.1) ∙ h)) t refl
+  module _ {A : Type 0} (part : Node → A) (wanted : A) (change : Object → Object) (keeps : Keeps change) (wears : (o : Object) → part o.node ≡ wanted → change o ≡ o)
+      (step : Step) (leaves : (now : ℕ) → after_at (places t) step now ≡ on_at path (λ x. changed now (change x)) (places t)) (busy : (now : ℕ) → Differ t (after t step now) → HasEffect t step now)
+      (now : ℕ) (other : IsKeptBy change path t → ⊥) where
+    no_part : change object ≢ object
+    no_part = other_object change other
 
-    module _ (now : ℕ) (other : part node ≢ wanted) where
-      no_part : change object ≢ object
-      no_part e = other (ap part standing.1.1 ∙ worn object e)
+    other_part : Lacks (λ o. part o.node) wanted path t
+    other_part o e h = let same : object ≡ o = same_Some object o (sym there ∙ e) in no_part (wears object (ap (λ x. part x.node) same ∙ h))
 
-      other_part : Lacks (λ o. part o.node) wanted path t
-      other_part o e h = let same : object ≡ o = same_Some object o (sym there ∙ e) in other (ap part standing.1.1 ∙ ap (λ v. part v.node) same ∙ h)
+    pub part_asks : Can (places t) step → Asks (Changing path change t) (Gives (λ o. part o.node) wanted step path t) t step now
+    part_asks able =
+        change_asks path change now t object there step (leaves now)
+        (Gives (λ o. part o.node) wanted step path t) keeps no_part able (busy now) (record { is = refl; other = other_part })
 
-      pub part_asks : Can (places t) step → Asks (Changing path change t) (Gives (λ o. part o.node) wanted step path t) t step now
-      part_asks able =
-          change_asks path change now t object there step (leaves now)
-          (Gives (λ o. part o.node) wanted step path t) keeps no_part able (busy now) (record { is = refl; other = other_part })
-
-      pub part_ok : (r : Result (Unit {0}) TreeFault) (u : Files) → OnOk r (u ≡ after t step now) → OnOk r (ChangedAt change path now t u)
-      part_ok r u done = changed_on path change now t object there step (leaves now) no_part r u done
-
-  pub acl_none : (now : ℕ) → node.acl ≡ new.acl → ChangedAt (with_acl_of new) path now t t
-  acl_none now h = changed_none path (with_acl_of new) now t object there (sets_metadata_acl new object (sym (ap (λ v. v.acl) standing.1.1) ∙ h)) t refl
-
-  pub acl_kept : IsKeptBy (with_acl_of new) path t → node.acl ≡ new.acl
-  acl_kept kept = ap (λ v. v.acl) standing.1.1 ∙ acl_worn new object (kept object there)
+    pub part_ok : (r : Result (Unit {0}) TreeFault) (u : Files) → OnOk r (u ≡ after t step now) → OnOk r (ChangedAt change path now t u)
+    part_ok r u done = changed_on path change now t object there step (leaves now) no_part r u done
 
 -- ---- parts that a change leaves as they are
 
@@ -437,6 +441,21 @@ module _ (path : Path) (now : ℕ) (t u : Files) {A : Type 0} (part : Object →
   lacks_before wanted lacks o e h =
       let same : first.old ≡ o = same_Some first.old o (sym first.there ∙ e) in
       lacks first.object (after_change path change now t u first) (part_kept first.old first.object first.is ∙ ap part same ∙ h)
+
+  -- a later change that gives this part is kept after this change where it is kept before it
+  module _ (wanted : A) (later : Object → Object) (wears : (o : Object) → part o ≡ wanted → later o ≡ o) (worn : (o : Object) → later o ≡ o → part o ≡ wanted) where
+    kept_after : IsKeptBy later path t → IsKeptBy later path u
+    kept_after kept o e =
+        let same : first.object ≡ o = same_Some first.object o (sym (after_change path change now t u first) ∙ e) in
+        wears o (sym (ap part same) ∙ part_kept first.old first.object first.is ∙ worn first.old (kept first.old first.there))
+
+    kept_before : IsKeptBy later path u → IsKeptBy later path t
+    kept_before kept o e =
+        let same : first.old ≡ o = same_Some first.old o (sym first.there ∙ e) in
+        wears o (sym (ap part same) ∙ sym (part_kept first.old first.object first.is) ∙ worn first.object (kept first.object (after_change path change now t u first)))
+
+    pub still_kept : (kept : Bool) → (IsTrue kept ↔ IsKeptBy later path t) → (IsTrue kept ↔ IsKeptBy later path u)
+    still_kept kept h = (λ yes. kept_after (h.0 yes), λ keeps. h.1 (kept_before keeps))
 
 -- ---- what changes nothing leaves what is there
 
@@ -497,6 +516,66 @@ module _ (path : Path) (new : Metadata) (now : ℕ) (t : Files) where
   pub two_changed : (u v : Files) → ChangedAt (with_owner_of new) path now t u → ChangedAt (with_mode_of new) path now u v → ChangedAt first_two path now t v
   two_changed u v a b = changed_then now (with_owner_of new) (with_mode_of new) (λ o. refl) (firm_owner new) path t u v a b
 
+  -- ---- what is kept after the changes before it
+
+  abbrev mode_parts : Object → ℕ × (ℕ × (ℕ × ℕ))
+  mode_parts o = (o.node.special, (o.node.acl.access.owner, (o.node.acl.access.group, o.node.acl.access.other)))
+
+  abbrev extended_parts : Object → Option ℕ × (List Named × Option Part)
+  extended_parts o = (o.node.acl.access.mask, (o.node.acl.access.named, o.node.acl.default_part))
+
+  has_mode_of : (o : Object) → mode_parts o ≡ (new.special, (new.acl.access.owner, (new.acl.access.group, new.acl.access.other))) → HasMode new o.node
+  has_mode_of o e = record {
+    special = λ i. (e i).0;
+    base = record { owner = λ i. (e i).1.0; group = λ i. (e i).1.1.0; other = λ i. (e i).1.1.1 };
+  }
+
+  has_extended_of : (o : Object) → extended_parts o ≡ (new.acl.access.mask, (new.acl.access.named, new.acl.default_part)) → HasExtended new o.node
+  has_extended_of o e = record { mask = λ i. (e i).0; named = λ i. (e i).1.0; default_part = λ i. (e i).1.1 }
+
+  module _ (kind : Kind) (fits : IsMetadata kind new) (u : Files) (first : ChangedAt (with_owner_of new) path now t u) (kept : Bool) where
+    pub mode_still : (IsTrue kept ↔ IsKeptBy (with_mode_of new) path t) → (IsTrue kept ↔ IsKeptBy (with_mode_of new) path u)
+    mode_still =
+        still_kept path now t u mode_parts (with_owner_of new) (λ o. refl) (λ o. refl) first
+        (new.special, (new.acl.access.owner, (new.acl.access.group, new.acl.access.other))) (with_mode_of new) (λ o e. sets_metadata_mode kind new fits o (has_mode_of o e))
+        (λ o e. let h = mode_worn kind new fits o e in λ i. (h.special i, (h.base.owner i, (h.base.group i, h.base.other i)))) kept
+
+    module _ (v : Files) (second : ChangedAt (with_mode_of new) path now u v) where
+      both : ChangedAt first_two path now t v
+      both = two_changed u v first second
+
+      extended_still : (IsTrue kept ↔ IsKeptBy (with_extended_of new) path t) → (IsTrue kept ↔ IsKeptBy (with_extended_of new) path v)
+      extended_still =
+          still_kept path now t v extended_parts first_two (λ o. refl) (λ o. refl) both
+          (new.acl.access.mask, (new.acl.access.named, new.acl.default_part)) (with_extended_of new) (λ o e. sets_metadata_extended new o (has_extended_of o e))
+          (λ o e. let h = extended_worn new o e in λ i. (h.mask i, (h.named i, h.default_part i))) kept
+
+      -- with the mode there, what the mode does not give makes up the ACL
+      acl_of_extended : IsKeptBy (with_extended_of new) path v → IsKeptBy (with_acl_of new) path v
+      acl_of_extended keeps o e =
+          let same : both.object ≡ o = same_Some both.object o (sym (after_change path first_two now t v both) ∙ e) in
+          let acl : o.node.acl ≡ (first_two both.old).node.acl = sym (ap (λ x. x.node.acl) same) ∙ same_acl both.old both.object both.is in
+          let base = mode_digits kind new fits in
+          let rest = extended_worn new o (keeps o e) in
+          sets_metadata_acl new o (λ i. record {
+            access = record {
+              owner = (ap (λ x. x.access.owner) acl ∙ base.owner) i;
+              group = (ap (λ x. x.access.group) acl ∙ base.group) i;
+              other = (ap (λ x. x.access.other) acl ∙ base.other) i;
+              mask = rest.mask i;
+              named = rest.named i;
+            };
+            default_part = rest.default_part i;
+          })
+
+      extended_of_acl : IsKeptBy (with_acl_of new) path v → IsKeptBy (with_extended_of new) path v
+      extended_of_acl keeps o e =
+          let acl : o.node.acl ≡ new.acl = acl_worn new o (keeps o e) in
+          sets_metadata_extended new o (record { mask = ap (λ x. x.access.mask) acl; named = ap (λ x. x.access.named) acl; default_part = ap (λ x. x.default_part) acl })
+
+      pub acl_still : (IsTrue kept ↔ IsKeptBy (with_extended_of new) path t) → (IsTrue kept ↔ IsKeptBy (with_acl_of new) path v)
+      acl_still h = let here = extended_still h in (λ yes. acl_of_extended (here.0 yes), λ keeps. here.1 (extended_of_acl keeps))
+
   pub all_changed : (kind : Kind) → IsMetadata kind new → (u v w : Files) → ChangedAt (with_owner_of new) path now t u → ChangedAt (with_mode_of new) path now u v → ChangedAt (with_acl_of new) path now v w → ChangedAt (with_access_of new) path now t w
   all_changed kind fits u v w a b c = changed_then now first_two (with_acl_of new) (λ o. refl) (firm_mode kind new fits) path t v w (two_changed u v a b) c
 
@@ -526,6 +605,14 @@ module _ (path : Path) (new : Metadata) (now : ℕ) (t : Files) where
 
   pub four_changed : (u v : Files) → ChangedAt (with_access_of new) path now t u → ChangedAt (with_attrs_of new) path now u v → ChangedAt first_four path now t v
   four_changed u v a b = changed_then now (with_access_of new) (with_attrs_of new) (λ o. refl) (firm_access new) path t u v a b
+
+  module _ (u : Files) (first : ChangedAt (with_access_of new) path now t u) (kept : Bool) where
+    pub attrs_still : (IsTrue kept ↔ IsKeptBy (with_attrs_of new) path t) → (IsTrue kept ↔ IsKeptBy (with_attrs_of new) path u)
+    attrs_still = still_kept path now t u (λ o. o.node.attrs) (with_access_of new) (λ o. refl) (λ o. refl) first new.attrs (with_attrs_of new) (sets_metadata_attrs new) (attrs_worn new) kept
+
+    pub letters_still : (v : Files) → ChangedAt (with_attrs_of new) path now u v → (IsTrue kept ↔ IsKeptBy (with_letters_of new) path t) → (IsTrue kept ↔ IsKeptBy (with_letters_of new) path v)
+    letters_still v second =
+        still_kept path now t v (λ o. o.node.letters) first_four (λ o. refl) (λ o. refl) (four_changed u v first second) new.letters (with_letters_of new) (sets_metadata_letters new) (letters_worn new) kept
 
   pub with_metadata_on : (r : Result (Unit {0}) TreeFault) → (u v w : Files) → ChangedAt (with_access_of new) path now t u → ChangedAt (with_attrs_of new) path now u v
       → OnOk r (ChangedAt (with_letters_of new) path now v w) → OnOk r (ChangedAt (with_metadata new) path now t w)

@@ -103,7 +103,7 @@ none_there f q (p ∷ paths) childless b =
     ap (λ x. x || list_any (λ r. b && option_map_or f (child_name r q) false) paths) (ap (λ o. b && option_map_or f o false) (childless p) ∙ and-false b)
     ∙ none_there f q paths childless b
 
-no_child : (p above : Path) (n : List ℕ) → same_path p above ≡ false → child_name p (above ++ n ∷ []) ≡ None
+pub no_child : (p above : Path) (n : List ℕ) → same_path p above ≡ false → child_name p (above ++ n ∷ []) ≡ None
 no_child p above n apart = by (child_name p (above ++ n ∷ [])) refl
   where
     by : (o : Option (List ℕ)) → child_name p (above ++ n ∷ []) ≡ o → o ≡ None

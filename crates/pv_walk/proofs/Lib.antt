@@ -1,3 +1,4 @@
+mod PartEquality
 pub mod ChangingLaws
 pub mod Settling
 pub mod Cutting

@@ -1,26 +1,29 @@
 -- Laws of taking away whole subtrees one after the other, and of their counts.
-use Rattle.std.specs.Prelude.{◌≡◌, ℕ, ◌+◌, ◌≤◌, ◌<◌, Bool, true, false, cond, not, ◌&&◌, ◌||◌, List, [], ◌∷◌, ◌++◌, map, length, take, drop, sum_by, get_or, filter, Option, Some, None, is_some, option_map, nat_le}
+use Rattle.std.specs.Prelude.{◌≡◌, ◌≢◌, ℕ, ◌+◌, ◌≤◌, ◌<◌, Bool, true, false, cond, not, ◌&&◌, ◌||◌, List, [], ◌∷◌, ◌++◌, map, length, take, drop, sum_by, get_or, filter, Option, Some, None, is_some, option_map, nat_le}
 use Rattle.std.proofs.Common.{refl, sym, ap, subst, ◌∙◌, arith, inl, inr}
-use Rattle.std.specs.List.{list_any}
+use Rattle.std.specs.List.{list_any, AllByRecursion}
 use Rattle.std.proofs.lemmas.List.{take_more, take-append-drop, get_or-map}
 use Rattle.std.proofs.lemmas.List.Sums.{fold_more, sum-map, AllPass-from_list_all, sum_by_more, sum_by-take-le}
 use Rattle.std.proofs.lemmas.List.Folds.{list_any-append}
 use Rattle.std.proofs.lemmas.List.FromFn.{get_or-map-range_with_len, length-map-range_with_len}
 use Rattle.std.specs.FinMap as fin
+use Rattle.pv_path.specs.Names.{staging_name}
 use Rattle.pv_path.specs.Paths.{Path, same_path, is_prefix, parent_of, last_name, staging_of}
 use Rattle.std.proofs.lemmas.Bool.Decides.{nat_tests}
 use Rattle.std.proofs.lemmas.List.Elements.{All-get_or}
-use Rattle.std.proofs.lemmas.Bool.{cases_Bool, and_parts}
+use Rattle.std.proofs.lemmas.Bool.{cases_Bool, and_parts, or_parts}
 use Rattle.std.proofs.lemmas.Option.{same_Some}
 use Rattle.pv_path.proofs.PathLaws.{is_prefix-refl, last_name-push, path_parts}
 use Rattle.pv_steps.specs.declared.object.Object.{Object}
 use Rattle.pv_steps.specs.Objects.{object_state}
-use Rattle.pv_steps.specs.Trees.{Files, Places, places, IsPresent}
-use Rattle.pv_walk.specs.Edits.{taken, all_taken, count_at, Pruned}
+use Rattle.pv_steps.specs.Steps.{touched}
+use Rattle.pv_steps.specs.Trees.{Files, Places, places, IsPresent, beside}
+use Rattle.pv_walk.specs.Edits.{cut, taken, all_taken, count_at, Pruned}
 use Rattle.pv_walk.specs.Staging.{prefixes, can_stage, staging_names, is_under_any, count_at_all}
 use Rattle.pv_walk.specs.Removal.{is_below, count_below}
 use Rattle.pv_walk.specs.Listing.{times, stands_below}
 use Rattle.pv_walk.proofs.CountLaws.{times-filter, times-keys, length-times, same_or_not}
+use Rattle.pv_walk.proofs.PreparedLaws.{prefixes-cons, prefixes-nonempty}
 use Rattle.pv_walk.proofs.RemovalLaws.{unless}
 use Rattle.pv_walk.proofs.ListingLaws.{times-below, cond-zero}
 use Rattle.pv_steps.proofs.ObjectLaws.{is_some-same}
@@ -171,6 +174,30 @@ module _ (path : Path) where
       last : (a b : Bool) → b ≡ true → (a || (b || false)) ≡ true
       last true b g = refl
       last false b g = ap (λ c. c || false) g
+
+-- ---- whether anything is staged
+
+-- the staging path of a longer path
+staging_of-longer : (name : List ℕ) (paths : List Path) → AllByRecursion (λ (p : Path). p ≢ []) paths
+    → map (λ (p : Path). name ∷ p) (map staging_of paths) ≡ map staging_of (map (λ (p : Path). name ∷ p) paths)
+staging_of-longer name [] h = refl
+staging_of-longer name ([] ∷ paths) h = absurd (h.0 refl)
+staging_of-longer name ((other ∷ p) ∷ paths) h = ap (λ ps. (name ∷ staging_of (other ∷ p)) ∷ ps) (staging_of-longer name paths h.1)
+
+-- the staging names beside the names of a path are those along it
+pub beside-staged : (path : Path) → beside path (map staging_name path) ≡ staging_names path
+beside-staged [] = refl
+beside-staged (name ∷ path) =
+    ap (λ ps. (staging_name name ∷ []) ∷ map (λ (p : Path). name ∷ p) ps) (beside-staged path)
+    ∙ ap (λ ps. (staging_name name ∷ []) ∷ ps) (staging_of-longer name (prefixes path) (prefixes-nonempty path))
+    ∙ sym (ap (map staging_of) (prefixes-cons name path))
+
+-- where nothing stands, nothing is taken
+pub nothing_taken : (now : ℕ) (paths : List Path) (t : Places) → list_any (λ p. is_some (t p)) paths ≡ false → all_taken now paths t ≡ t
+nothing_taken now [] t none = refl
+nothing_taken now (p ∷ paths) t none =
+    let two = or_parts (is_some (t p)) (list_any (λ q. is_some (t q)) paths) none in
+    ap (λ b. all_taken now paths (cond b (touched now p (cut p t)) t)) two.0 ∙ nothing_taken now paths t two.1
 
 all_end : (xs : Path) (n : List ℕ) → can_stage (xs ++ n ∷ []) ≡ true → nat_le (length n) 250 ≡ true
 all_end [] n h = (and_parts (nat_le (length n) 250) true h).0

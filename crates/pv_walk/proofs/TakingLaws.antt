@@ -1,9 +1,11 @@
 -- Laws of paths that are taken away one after the other, the last one of a list first.
-use Rattle.std.specs.Prelude.{◌≡◌, ◌≢◌, ℕ, ◌+◌, ◌≤◌, Bool, true, false, cond, ◌||◌, ◌⊎◌, List, [], ◌∷◌, ◌++◌, length, map, reverse, take, None, Result, is_some, option_map}
+use Rattle.std.specs.Prelude.{◌≡◌, ◌≢◌, ℕ, ◌+◌, ◌-◌, ◌≤◌, Bool, true, false, cond, ◌||◌, ◌⊎◌, List, [], ◌∷◌, ◌++◌, length, map, reverse, take, slice_get, Option, Some, None, Result, is_some, IfSome, option_map}
 use Rattle.std.specs.List.{list_any}
-use Rattle.std.proofs.Common.{refl, sym, ap, subst, ◌∙◌, arith, inl, inr}
+use Rattle.std.proofs.Common.{Bor, refl, sym, ap, subst, ◌∙◌, arith, inl, inr, append_assoc, zero, suc}
+use Rattle.std.proofs.lemmas.List.Folds.{list_any-append}
+use Rattle.std.proofs.lemmas.List.Sorted.{IsPermutation-reverse, list_any-IsPermutation}
 use Rattle.pv_path.specs.Paths.{Path, same_path, same_path-decides, parent_of}
-use Rattle.std.proofs.lemmas.List.{map-append, reverse-append, take_at}
+use Rattle.std.proofs.lemmas.List.{append-nil, map-append, reverse-append, reverse-reverse, take_at}
 use Rattle.std.proofs.lemmas.Bool.{cases_Bool, and_parts, or_right}
 use Rattle.pv_path.proofs.PathLaws.{path_ends, parent_of-push, same_path-refl}
 use Rattle.pv_steps.specs.declared.step.Step.{Step}
@@ -237,3 +239,47 @@ module _ (files : Files) (path : Path) (listed : List Path) (l : IsListing files
   -- and lies below the path
   pub listed_below : (q : Path) → is_one_of listed q ≡ true → is_below path q ≡ true
   listed_below q h = (stands q (one_of-some listed q h)).0
+
+-- ---- the steps for a list of paths
+
+-- what can be removed is present
+pub removable_present : (files : Files) (paths : List Path) → AreRemovable files paths → (q : Path) → is_one_of paths q ≡ true → is_some (places files q) ≡ true
+removable_present files paths ok q h = cond-true (is_some (places files q)) (omega (arith, one_of-some paths q h, ok.once q))
+
+one_of-at : (paths : List Path) (k : ℕ) (q : Path) → slice_get paths k ≡ Some q → is_one_of paths q ≡ true
+one_of-at [] k q e = cc
+one_of-at (p ∷ paths) zero q e = let is : p ≡ q = cc in ap (λ b. b || is_one_of paths q) ((same_path-decides p q).1 is)
+one_of-at (p ∷ paths) (suc k) q e = by (same_path p q) (one_of-at paths k q e)
+  where
+    by : (b : Bool) → is_one_of paths q ≡ true → (b || is_one_of paths q) ≡ true
+    by true h = refl
+    by false h = h
+
+-- of paths that are present, the last one is
+pub last_present : (files : Files) (left : List Path) (o : Option (Bor Path)) → option_map (λ s. s.now) o ≡ slice_get left (length left - 1)
+    → ((q : Path) → is_one_of left q ≡ true → is_some (places files q) ≡ true) → IfSome o (λ q. is_some (places files q.now) ≡ true)
+last_present files left None e present = tt
+last_present files left (Some s) e present = present s.now (one_of-at left (length left - 1) s.now (sym e))
+
+-- the paths that are left are present, and their steps follow in turned order
+pub record Planning (files : Files) (paths left : List Path) (steps : List Step) : Type 0 where
+  pub rest : steps ++ map (removal_at files) (reverse left) ≡ map (removal_at files) paths
+  pub present : (q : Path) → is_one_of left q ≡ true → is_some (places files q) ≡ true
+
+pub planning_start : (files : Files) (paths left : List Path) (steps : List Step) → ((q : Path) → is_one_of paths q ≡ true → is_some (places files q) ≡ true)
+    → left ≡ reverse paths → steps ≡ [] → Planning files paths left steps
+planning_start files paths left steps present turned none = record {
+  rest = ap (λ (ss : List Step). ss ++ map (removal_at files) (reverse left)) none ∙ ap (λ (ps : List Path). map (removal_at files) (reverse ps)) turned ∙ ap (map (removal_at files)) (reverse-reverse paths);
+  present = λ q h. present q (list_any-IsPermutation (λ p. same_path p q) paths (reverse paths) (IsPermutation-reverse paths) ∙ ap (λ (ps : List Path). is_one_of ps q) (sym turned) ∙ h);
+}
+
+pub planning_next : (files : Files) (paths left : List Path) (p : Path) (steps new : List Step) → Planning files paths (left ++ p ∷ []) steps → new ≡ steps ++ removal_at files p ∷ [] → Planning files paths left new
+planning_next files paths left p steps new d is = record {
+  rest =
+      ap (λ (ss : List Step). ss ++ map (removal_at files) (reverse left)) is ∙ append_assoc steps (removal_at files p ∷ []) (map (removal_at files) (reverse left))
+      ∙ ap (λ (ps : List Path). steps ++ map (removal_at files) ps) (sym (reverse-append left (p ∷ []))) ∙ d.rest;
+  present = λ q h. d.present q (list_any-append (λ r. same_path r q) left (p ∷ []) ∙ ap (λ b. b || is_one_of (p ∷ []) q) h);
+}
+
+pub planning_end : (files : Files) (paths : List Path) (steps : List Step) → Planning files paths [] steps → steps ≡ map (removal_at files) paths
+planning_end files paths steps d = sym (append-nil steps) ∙ d.rest

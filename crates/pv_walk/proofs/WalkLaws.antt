@@ -1,19 +1,20 @@
 -- Laws of the walk along a path, place by place.
-use Rattle.std.specs.Prelude.{◌≡◌, ℕ, ◌+◌, ◌-◌, ◌<◌, ◌≤◌, true, false, cond, not, ◌&&◌, ◌==◌, nat_lt, List, [], ◌∷◌, length, take, Option, Some, None, is_some, option_map}
-use Rattle.std.proofs.Common.{zero, suc, refl, sym, ap, ◌∙◌, arith}
+use Rattle.std.specs.Prelude.{◌≡◌, ℕ, ◌+◌, ◌-◌, ◌<◌, ◌≤◌, true, false, cond, not, ◌&&◌, ◌==◌, nat_lt, List, [], ◌∷◌, length, take, slice_get, Option, Some, None, is_some, option_map}
+use Rattle.std.proofs.Common.{Bor, zero, suc, refl, sym, ap, ◌∙◌, arith}
 use Rattle.std.proofs.lemmas.Bool.Decides.{nat_tests}
 use Rattle.std.specs.List.{range_with_len}
-use Rattle.std.specs.Option.{option_map_or, option_or}
+use Rattle.std.specs.Option.{option_copied, option_map_or, option_or}
 use Rattle.pv_path.specs.Paths.{Path}
+use Rattle.pv_steps.specs.declared.node.Node.{Node}
 use Rattle.pv_steps.specs.declared.object.Object.{Object}
 use Rattle.pv_steps.specs.declared.why.Why.{Why}
 use Rattle.pv_steps.specs.declared.why.Why.TheVariants.{UnsafeOwner}
-use Rattle.pv_steps.specs.Trees.{Places, kind_of}
+use Rattle.pv_steps.specs.Trees.{Files, Places, places, kind_of, node_at}
 use Rattle.pv_steps.specs.Refusal.{owner_at, why_unsafe, why_refused, is_unsafe, first_refused, first_absent}
 use Rattle.pv_walk.specs.declared.walking.Seen.{Seen}
 use Rattle.pv_walk.specs.declared.walking.Walked.TheVariants.{Refused}
 use Rattle.pv_walk.specs.Walking.{outcome, unrefused, unsafe_component_from}
-use Rattle.pv_walk.specs.Seeing.{seen_of, seen_kind, seen_owner, why_owner, if_absent, owner_above, walked_from}
+use Rattle.pv_walk.specs.Seeing.{seen_node, seen_of, seen_kind, seen_owner, why_owner, if_absent, owner_above, walked_from}
 
 -- ---- the places that are left
 
@@ -27,6 +28,12 @@ pub range_end : (n : ℕ) → range_with_len (n + 1) (n + 1 - (n + 1)) ≡ []
 range_end n = let none : n + 1 - (n + 1) ≡ zero = omega arith in ap (range_with_len (n + 1)) none
 
 -- ---- what is seen at a place
+
+-- what is seen in a list of nodes that has the node of a prefix of a path
+pub seen_along : (files : Files) (path : Path) (k : ℕ) (items nodes : List (Bor Node)) (place : Option Seen) → place ≡ seen_node (option_copied (slice_get items k)) → items ≡ nodes
+    → option_copied (slice_get nodes k) ≡ node_at files (take k path) → place ≡ seen_of (places files (take k path))
+seen_along files path k items nodes place seen same is =
+    seen ∙ ap (λ (ns : List (Bor Node)). seen_node (option_copied (slice_get ns k))) same ∙ ap seen_node is
 
 seen_kind-of : (o : Option Object) → seen_kind (seen_of o) ≡ kind_of o
 seen_kind-of None = refl
@@ -124,9 +131,9 @@ range_step k n h = let here : n - k ≡ suc (n - (k + 1)) = omega arith in ap (r
 pub range_none : (k n : ℕ) → k ≡ n → range_with_len k (n - k) ≡ []
 range_none k n e = let none : n - k ≡ zero = omega (arith, e) in ap (range_with_len k) none
 
-module _ (t : Places) (path : Path) (k : ℕ) (ks : List ℕ) (at : Path) (is : at ≡ take k path) (place : Option Seen) (why : Option Why) (seen : place ≡ seen_of (t at)) (found : why ≡ why_unsafe (seen_kind place)) where
+module _ (t : Places) (path : Path) (k : ℕ) (ks : List ℕ) (place : Option Seen) (why : Option Why) (seen : place ≡ seen_of (t (take k path))) (found : why ≡ why_unsafe (seen_kind place)) where
   why_is : why_unsafe (kind_of (t (take k path))) ≡ why
-  why_is = sym (found ∙ ap (λ p. why_unsafe (seen_kind p)) seen ∙ ap why_unsafe (seen_kind-of (t at)) ∙ ap (λ p. why_unsafe (kind_of (t p))) is)
+  why_is = sym (found ∙ ap (λ p. why_unsafe (seen_kind p)) seen ∙ ap why_unsafe (seen_kind-of (t (take k path))))
 
   pub unsafe_component_next : why ≡ None → unsafe_component_from t path (k ∷ ks) ≡ unsafe_component_from t path ks
   unsafe_component_next none = ap (λ r. option_or (option_map (λ reason. (k, reason)) r) (unsafe_component_from t path ks)) (why_is ∙ none)

@@ -1,6 +1,6 @@
 -- Laws of what can be taken away with all that stands below it: children decide it, and the deepest go first.
-use Rattle.std.specs.Prelude.{◌≡◌, ℕ, ◌+◌, ◌<◌, ◌≤◌, Bool, true, false, cond, not, ◌&&◌, ◌||◌, ◌==◌, List, [], ◌∷◌, ◌++◌, length, is_some}
-use Rattle.std.proofs.Common.{refl, sym, ap, subst, ◌∙◌, inl, inr, ◌⊎◌, arith, append_assoc, length-append, get_or, zero, suc}
+use Rattle.std.specs.Prelude.{◌≡◌, ℕ, ◌+◌, ◌-◌, ◌<◌, ◌≤◌, Bool, true, false, cond, not, ◌&&◌, ◌||◌, ◌==◌, List, [], ◌∷◌, ◌++◌, length, take, Option, Some, None, is_some, IfSome, option_map}
+use Rattle.std.proofs.Common.{Bor, refl, sym, ap, subst, ◌∙◌, inl, inr, ◌⊎◌, arith, append_assoc, length-append, get_or, zero, suc}
 use Rattle.std.proofs.lemmas.List.{append-nil}
 use Rattle.std.proofs.lemmas.Bool.Decides.{nat_tests}
 use Rattle.std.proofs.lemmas.List.Folds.{list_any-append}
@@ -15,10 +15,11 @@ use Rattle.std.specs.FinMap as fin
 use Rattle.std.proofs.lemmas.Bool.{and_parts, and_from}
 use Rattle.std.proofs.Math.Bool.{or-false, or-true}
 use Rattle.pv_path.specs.Paths.{Path, path_cmp, path_total, same_path, same_path-decides, is_prefix}
-use Rattle.pv_path.proofs.PathLaws.{same_path-refl, path_cmp-refl, name_cmp-refl, name_cmp-exact, is_prefix-append, is_prefix-trans, is_prefix-refl, prefix_parts, prefix_not_greater, tied-equal}
-use Rattle.pv_steps.specs.Trees.{Files, places, names_below, IsTree, IsPresent}
+use Rattle.std.proofs.Math.Seq.{take-append_seam}
+use Rattle.pv_path.proofs.PathLaws.{same_path-refl, path_ends, path_cmp-refl, name_cmp-refl, name_cmp-exact, is_prefix-append, is_prefix-trans, is_prefix-refl, prefix_parts, prefix_not_greater, tied-equal}
+use Rattle.pv_steps.specs.Trees.{Files, places, child_name, names_below, IsTree, IsPresent}
 use Rattle.pv_path.specs.Names.{name_cmp}
-use Rattle.pv_steps.proofs.NameLaws.{names_below-are}
+use Rattle.pv_steps.proofs.NameLaws.{child_name-Some, child_name-push, names_below-are}
 use Rattle.pv_steps.proofs.TreeLaws.{present_above}
 use Rattle.pv_walk.specs.Removal.{is_one_of}
 use Rattle.pv_walk.specs.Listing.{times, is_child, ParentsFirst, AreRemovable}
@@ -26,7 +27,7 @@ use Rattle.pv_walk.proofs.CountLaws.{child_parts}
 use Rattle.pv_walk.proofs.RemovalLaws.{cond-true}
 use Rattle.pv_walk.proofs.TakingLaws.{one_of-none}
 use Rattle.pv_walk.specs.Whole.{goes_whole, all_at}
-use Rattle.pv_walk.proofs.FindingLaws.{one_of-tied, same_tied}
+use Rattle.pv_walk.proofs.FindingLaws.{no_child, one_of-tied, same_tied}
 use Rattle.pv_path.proofs.Tests.{equal_of, same_tests}
 
 -- ---- members of lists
@@ -370,6 +371,48 @@ emptied q (k ∷ keys) none = absurd (none (omega arith))
 pub empty : (keys : List Path) → (0 < length keys → ⊥) → keys ≡ []
 empty [] none = refl
 empty (k ∷ keys) none = absurd (none (omega arith))
+
+-- what was decided to go is present
+pub decided_present : (paths : List Path) (files : Files) (front whole : List Path) → Deciding paths files front whole → (q : Path) → is_one_of whole q ≡ true → is_some (places files q) ≡ true
+decided_present paths files front whole d q h =
+    (goes_parts (is_one_of paths) files q (and_parts (is_one_of d.back q) (goes_whole (is_one_of paths) files q) (sym (d.decided q) ∙ h)).1).0
+
+-- ---- the name of a path in a directory
+
+get_or-end : (q : Path) (m d : List ℕ) → get_or (q ++ m ∷ []) (length q) d ≡ m
+get_or-end [] m d = refl
+get_or-end (n ∷ q) m d = get_or-end q m d
+
+-- a path in its two parts: all names but the last, and the last
+pub last_parts : (q names above : Path) (name : List ℕ) → names ≡ q → 1 ≤ length names → name ≡ get_or names (length names - 1) name → above ≡ take (length names - 1) names → q ≡ above ++ name ∷ []
+last_parts q names above name is long last front = by_end (path_ends q)
+  where
+    by_end : (q ≡ []) ⊎ ((p : Path) × (m : List ℕ) × (q ≡ p ++ m ∷ [])) → q ≡ above ++ name ∷ []
+    by_end (inl root) = absurd (let none : length names ≡ 0 = ap length (is ∙ root) in omega (arith, long, none))
+    by_end (inr w) =
+        let seen : names ≡ w.0 ++ w.1 ∷ [] = is ∙ w.2 in
+        let at : length (w.0 ++ w.1 ∷ []) - 1 ≡ length w.0 = omega (arith, length-append w.0 (w.1 ∷ [])) in
+        let last_is : name ≡ w.1 = last ∙ (rw (seen, at) (get_or-end w.0 w.1 name)) in
+        let front_is : above ≡ w.0 = front ∙ (rw (seen, at) (take-append_seam w.0 (w.1 ∷ []))) in
+        rw (front_is, last_is) w.2
+
+-- the root lies in no directory
+pub root_in_none : (path : Path) → child_name path [] ≡ None
+root_in_none [] = refl
+root_in_none (n ∷ path) = refl
+
+-- a path has a name in its own directory, and in no other
+pub name_in_own : (path q above : Path) (name : List ℕ) → q ≡ above ++ name ∷ [] → same_path path above ≡ true → Some name ≡ child_name path q
+name_in_own path q above name is same =
+    sym (ap (child_name path) (is ∙ ap (λ (p : Path). p ++ name ∷ []) (sym ((same_path-decides path above).0 same))) ∙ child_name-push path name)
+
+pub name_in_other : (path q above : Path) (name : List ℕ) → q ≡ above ++ name ∷ [] → same_path path above ≡ false → None ≡ child_name path q
+name_in_other path q above name is apart = sym (ap (child_name path) is ∙ no_child path above name apart)
+
+-- what holds of a path, holds of the child of the name that it has in a directory
+pub child_has : (P : Path → Type 0) (path q : Path) (o : Option (Bor (List ℕ))) → option_map (λ s. s.now) o ≡ child_name path q → P q → IfSome o (λ name. P (path ++ name.now ∷ []))
+child_has P path q None e h = tt
+child_has P path q (Some s) e h = subst P (child_name-Some path q s.now (sym e)) h
 
 -- one path more in a set, where all its children are in the set
 pub inserted : (old new : List Path) (path q : Path) (all : Bool) → list_any (eq_by_cmp path_cmp q) new ≡ cond (is_eq (path_cmp path q)) true (list_any (eq_by_cmp path_cmp q) old)

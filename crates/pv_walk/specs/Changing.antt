@@ -29,6 +29,16 @@ pub record HasMode (new : Metadata) (node : Node) : Type 0 where
   pub special : node.special ≡ new.special
   pub base : SameBase node.acl.access new.acl.access
 
+-- A node has the part of this metadata's ACL that the mode does not give: named entries, mask and default part.
+pub record HasExtended (new : Metadata) (node : Node) : Type 0 where
+  pub mask : node.acl.access.mask ≡ new.acl.access.mask
+  pub named : node.acl.access.named ≡ new.acl.access.named
+  pub default_part : node.acl.default_part ≡ new.acl.default_part
+
+-- An object with that part of the ACL. Its timestamps stay.
+abbrev pub with_extended_of : Metadata → Object → Object
+with_extended_of new o = record o { node = record o.node { acl = record { access = record o.node.acl.access { mask = new.acl.access.mask; named = new.acl.access.named }; default_part = new.acl.default_part } } }
+
 -- An intermediate state of one change: the change is not done yet, or it is done. Timestamps are left out.
 abbrev pub Changing : Path → (Object → Object) → Files → Files → Type 0
 Changing path change t u =

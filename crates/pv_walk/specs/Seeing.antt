@@ -3,6 +3,7 @@ use Rattle.std.specs.Prelude.{ℕ, ◌-◌, not, ◌&&◌, ◌==◌, List, Optio
 use Rattle.std.specs.Option.{option_map_or, option_or}
 use Rattle.pv_path.specs.Paths.{Path}
 use Rattle.pv_steps.specs.declared.node.Kind.{Kind}
+use Rattle.pv_steps.specs.declared.node.Node.{Node}
 use Rattle.pv_steps.specs.declared.object.Object.{Object}
 use Rattle.pv_steps.specs.declared.why.Why.{Why}
 use Rattle.pv_steps.specs.declared.why.Why.TheVariants.{UnsafeOwner}
@@ -12,9 +13,13 @@ use Rattle.pv_walk.specs.declared.walking.Seen.{Seen}
 use Rattle.pv_walk.specs.declared.walking.Walked.{Walked}
 use Rattle.pv_walk.specs.Walking.{outcome}
 
--- What a walk looks at of an object, if there is one: its kind and its owner.
+-- What a walk looks at of a node, if there is one: its kind and its owner.
+abbrev pub seen_node : Option Node → Option Seen
+seen_node node = option_map (λ n. record { kind = n.kind; owner = n.uid }) node
+
+-- The same of an object, if there is one.
 abbrev pub seen_of : Option Object → Option Seen
-seen_of o = option_map (λ x. record { kind = x.node.kind; owner = x.node.uid }) o
+seen_of o = seen_node (option_map (λ x. x.node) o)
 
 -- The kind of what was seen, if there was an object.
 abbrev pub seen_kind : Option Seen → Option Kind

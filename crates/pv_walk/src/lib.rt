@@ -12,6 +12,7 @@
 #![tactic(auto)]
 
 mod copying;
+mod known_child;
 mod laws;
 mod listed_below;
 mod listing;

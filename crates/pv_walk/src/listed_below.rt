@@ -21,7 +21,7 @@ pub fn at_and_below<T: Tree>(
 ) -> Result<Vec<TreePath>, AllocError>
     ensures { IfOk result (λ paths. paths.items ≡ filter (is_prefix path.now) (fin.keys (T.state tree.now))) }
 {
-    let mut listed = in_order(below(alloc, tree, path)?);
+    let mut listed = below(alloc, tree, path)?;
     let mut paths = Vec::new(alloc);
     add_standing(tree, path, &mut paths)?;
     paths.append(&mut listed)?;

@@ -91,6 +91,27 @@ pub fn publish<T: Tree>(
         (1 + count_at (T.state tree.old) path.now) now tree.old tree.new result }
 {
     let stage = staging(alloc, path)?;
+    publish_staged(alloc, tree, stage, path, now)
+}
+
+/// Renames the object at the staging name of a path into place, where this staging name is known.
+pub(crate) fn publish_staged<T: Tree>(
+    alloc: Global,
+    tree: &mut T,
+    stage: TreePath,
+    path: &TreePath,
+    now: u64,
+) -> Result<(), TreeFault>
+    requires stage { stage ≡ staging_of path.now }
+    requires not_root { path.now ≢ [] }
+    requires staged { IsPresent (T.state tree.old) (staging_of path.now) }
+    ensures moved { OnOk result
+        (places (T.state tree.new)
+        ≡ moved now (staging_of path.now) path.now (places (T.state tree.old))) }
+    ensures acted { Acted T.Tree (Publishing now path.now (T.state tree.old))
+        (IsPublishing path.now)
+        (1 + count_at (T.state tree.old) path.now) now tree.old tree.new result }
+{
     make_way(alloc, tree, &stage, path, now)?;
     rename(tree, stage, path.copy()?, now)
 }

@@ -1,6 +1,6 @@
 //! Removes what is below a path.
-ghost use Rattle.std.specs.Prelude.{◌≡◌, ◌≢◌, [], ◌++◌, length, map, reverse, IfOk, OnOk};
-ghost use Rattle.pv_path.specs.Paths.{same_path};
+ghost use Rattle.std.specs.Prelude.{◌≡◌, ◌≢◌, [], ◌++◌, length, map, reverse, true, is_some, IfOk, IfSome, OnOk};
+ghost use Rattle.pv_path.specs.Paths.{Path, same_path};
 ghost use Rattle.pv_steps.specs.Trees.{places, IsPresent, IsEmptyIn, IsTree};
 ghost use Rattle.pv_steps.specs.Steps.{gone};
 ghost use Rattle.pv_steps.specs.Objects.{modified};
@@ -10,6 +10,7 @@ ghost use Rattle.pv_steps.specs.Acting.{Acted};
 ghost use Rattle.pv_walk.specs.Removal.{is_below, is_one_of, without, count_below, removal_at, DonePart, MayHaveGone};
 ghost use Rattle.pv_walk.specs.Listing.{children_of, IsListing, AreGathered, AreRemovable};
 
+use crate::known_child::is_directory_above;
 use pv_path::{TreePath, child};
 use pv_steps::{Step, Tree, TreeFault, is_directory, try_all, try_step};
 use std::alloc::{AllocError, Global};
@@ -76,22 +77,35 @@ pub(crate) fn remove<T: Tree>(tree: &mut T, path: TreePath, now: u64) -> Result<
 pub fn removal<T: Tree>(tree: &T, path: TreePath) -> Step
     ensures { result ≡ removal_at (T.state tree.now) path }
 {
-    if is_directory(tree, &path) {
+    removal_before(tree, path, None)
+}
+
+/// Returns the steps that remove the objects at some paths, in the order of the paths. All paths must be present.
+fn removals<T: Tree>(alloc: Global, tree: &T, paths: Vec<TreePath>) -> Result<Vec<Step>, AllocError>
+    requires { (q : Path) → is_one_of paths.items q ≡ true → is_some (places (T.state tree.now) q) ≡ true }
+    ensures { IfOk result (λ steps. steps.items ≡ map (removal_at (T.state tree.now)) paths.items) }
+{
+    let mut left = paths;
+    left.reverse();
+    let mut steps = Vec::with_capacity(alloc, left.len())?;
+    while let Some(path) = left.pop() {
+        let step = removal_before(tree, path, left.last());
+        steps.push(step)?;
+    }
+    Ok(steps)
+}
+
+/// Returns the step that removes the object at a path, as `removal` does. The next path of a list may be given, which
+/// must be present: if it is directly below the path, the call does not look.
+fn removal_before<T: Tree>(tree: &T, path: TreePath, next: Option<&TreePath>) -> Step
+    requires { IfSome next (λ q. is_some (places (T.state tree.now) q.now) ≡ true) }
+    ensures { result ≡ removal_at (T.state tree.now) path }
+{
+    if is_directory_above(tree, &path, next) {
         Step::RemoveDir { path }
     } else {
         Step::Unlink { path }
     }
-}
-
-/// Returns the steps that remove the objects at some paths, in the order of the paths.
-fn removals<T: Tree>(alloc: Global, tree: &T, paths: Vec<TreePath>) -> Result<Vec<Step>, AllocError>
-    ensures { IfOk result (λ steps. steps.items ≡ map (removal_at (T.state tree.now)) paths.items) }
-{
-    let mut steps = Vec::new(alloc);
-    for path in paths {
-        steps.push(removal(tree, path))?;
-    }
-    Ok(steps)
 }
 
 /// Removes the objects at some paths, the last path of the list first.

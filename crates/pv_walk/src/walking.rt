@@ -2,15 +2,15 @@
 //!
 //! A component is given by the number of names that lead to it: 0 is the root, and 2 is the component `/run/app` of
 //! `/run/app/x`.
-ghost use Rattle.std.specs.Prelude.{◌≡◌, ◌<◌, ◌≤◌, ◌^◌, [], ◌∷◌, ◌++◌, length, IfOk, OnOk};
-ghost use Rattle.std.specs.Option.{option_or};
+ghost use Rattle.std.specs.Prelude.{◌≡◌, ◌<◌, ◌≤◌, ◌^◌, [], ◌∷◌, ◌++◌, length, slice_get, IfOk, OnOk};
+ghost use Rattle.std.specs.Option.{option_copied, option_or};
 ghost use Rattle.pv_steps.specs.Trees.{places, IsTree};
 ghost use Rattle.pv_steps.specs.Refusal.{refusal, why_unsafe};
 ghost use Rattle.pv_walk.specs.Walking.{walked, unrefused, first_unsafe_component};
-ghost use Rattle.pv_walk.specs.Seeing.{seen_of, seen_kind, seen_owner, why_owner, if_absent};
+ghost use Rattle.pv_walk.specs.Seeing.{seen_node, seen_kind, seen_owner, why_owner, if_absent};
 
 use pv_path::{Name, TreePath};
-use pv_steps::{Kind, Tree, Why};
+use pv_steps::{Kind, Node, Tree, Why};
 use std::alloc::{AllocError, Global};
 
 /// What a walk along a path found. A component is given by the number of names that lead to it, so 0 is the root.
@@ -56,24 +56,23 @@ pub fn walk<T: Tree>(
     ensures walked { IfOk result (λ w. w ≡ walked (places (T.state tree.now)) path.now made) }
     ensures tree { IsTree (T.state tree.now) }
 {
-    let mut at = TreePath::root(alloc);
+    let nodes = tree.look_along(alloc, path)?;
     let mut above = 0;
     let mut absent = None;
-    for (k, name) in path.names().iter().enumerate() {
-        let place = seen_at(tree, &at);
+    for k in 0..path.len() {
+        let place = seen_in(&nodes, k);
         let owner = owner_of(place, 0);
         if let Some(why) = why_above(place, above, owner) {
             return Ok(Walked::Refused(k as u32, why));
         }
         absent = or_absent(absent, place, k as u32);
         above = owner;
-        go_down(&mut at, name)?;
     }
-    let place = seen_at(tree, &at);
-    let last = path.len() as u32;
+    let last = path.len();
+    let place = seen_in(&nodes, last);
     match why_owner(above, owner_of(place, made)) {
-        Some(why) => Ok(Walked::Refused(last, why)),
-        None => Ok(end_of(or_absent(absent, place, last))),
+        Some(why) => Ok(Walked::Refused(last as u32, why)),
+        None => Ok(end_of(or_absent(absent, place, last as u32))),
     }
 }
 
@@ -112,12 +111,11 @@ pub fn unsafe_component<T: Tree>(
     ensures place { IfOk result (λ place. place ≡ first_unsafe_component (places (T.state tree.now)) path.now) }
     ensures tree { IsTree (T.state tree.now) }
 {
-    let mut at = TreePath::root(alloc);
-    for (k, name) in path.names().iter().enumerate() {
-        if let Some(why) = why_passed(seen_at(tree, &at)) {
+    let nodes = tree.look_along(alloc, path)?;
+    for k in 0..path.len() {
+        if let Some(why) = why_passed(seen_in(&nodes, k)) {
             return Ok(Some((k as u32, why)));
         }
-        go_down(&mut at, name)?;
     }
     Ok(None)
 }
@@ -129,12 +127,11 @@ pub(crate) fn go_down(place: &mut TreePath, name: &Name) -> Result<(), AllocErro
     place.push(name.copy()?)
 }
 
-/// Returns the kind and the owner of the object at a path.
-fn seen_at<T: Tree>(tree: &T, at: &TreePath) -> Option<Seen>
-    ensures seen { result ≡ seen_of (places (T.state tree.now) at.now) }
-    ensures tree { IsTree (T.state tree.now) }
+/// Returns the kind and the owner of the node at an index, or `None` past the last node.
+fn seen_in(nodes: &[&Node], k: usize) -> Option<Seen>
+    ensures { result ≡ seen_node (option_copied (slice_get nodes.now k)) }
 {
-    match tree.look(at) {
+    match nodes.get(k) {
         Some(node) => Some(Seen {
             kind: node.kind,
             owner: node.uid,

@@ -1,5 +1,5 @@
 //! Which of some paths can be removed, each with everything below it.
-ghost use Rattle.std.specs.Prelude.{◌≡◌, ◌||◌, ◌&&◌, ◌==◌, not, [], ◌∷◌, ◌++◌, ℕ, length, reverse, true, is_some, IfOk, OnOk};
+ghost use Rattle.std.specs.Prelude.{◌≡◌, ◌||◌, ◌&&◌, ◌==◌, not, [], ◌∷◌, ◌++◌, ℕ, length, reverse, true, is_some, IfOk, IfSome, OnOk};
 ghost use Rattle.std.specs.List.{list_all};
 ghost use Rattle.std.specs.BTreeSet.{IsOrdered};
 ghost use Rattle.std.specs.List.Sorted.{IsNonDecreasingBy};
@@ -9,9 +9,10 @@ ghost use Rattle.pv_walk.specs.Listing.{times};
 ghost use Rattle.pv_walk.specs.Removal.{is_one_of};
 ghost use Rattle.pv_walk.specs.Whole.{goes_whole, AreDeepestFirst};
 
+use crate::known_child::{is_directory_with, name_below};
 use crate::order::in_order;
-use pv_path::{TreePath, child};
-use pv_steps::{Tree, is_directory};
+use pv_path::{Name, TreePath, child};
+use pv_steps::Tree;
 use std::alloc::{AllocError, Global};
 use std::collections::BTreeSet;
 
@@ -36,13 +37,15 @@ pub fn whole_of<T: Tree>(
     Ok(whole)
 }
 
-/// Adds a path other than the root, if everything directly below it was added before.
+/// Adds a path other than the root, if everything directly below it was added before. All paths that were added before
+/// must be present.
 fn add_whole<T: Tree>(
     alloc: Global,
     tree: &T,
     path: TreePath,
     whole: &mut BTreeSet<TreePath>,
 ) -> Result<(), AllocError>
+    requires { (q : Path) → is_one_of whole.old.keys q ≡ true → is_some (places (T.state tree.now) q) ≡ true }
     ensures added { OnOk result ((q : Path) → is_one_of whole.new.keys q ≡ (is_one_of whole.old.keys q
         || (same_path path q && (not (length path == 0)
         && list_all (λ n. is_one_of whole.old.keys (path ++ n ∷ [])) (names_below (T.state tree.now) path))))) }
@@ -54,36 +57,66 @@ fn add_whole<T: Tree>(
     Ok(())
 }
 
-/// Returns whether everything directly below a path is among some paths.
+/// Returns whether everything directly below a path is among some paths, which must be present.
 fn has_children_in<T: Tree>(
     alloc: Global,
     tree: &T,
     path: &TreePath,
     whole: &BTreeSet<TreePath>,
 ) -> Result<bool, AllocError>
+    requires { (q : Path) → is_one_of whole.now.keys q ≡ true → is_some (places (T.state tree.now) q) ≡ true }
     ensures all { IfOk result (λ all. all
         ≡ list_all (λ n. is_one_of whole.now.keys (path.now ++ n ∷ [])) (names_below (T.state tree.now) path.now)) }
     ensures tree { IsTree (T.state tree.now) }
 {
-    if !is_directory(tree, path) {
+    let known = first_name(whole, path);
+    if !is_directory_with(tree, path, known) {
         return Ok(true);
     }
     let names = tree.list(alloc, path)?;
-    for name in names.as_slice() {
-        if !is_soon_among(whole, &child(alloc, path, name.bytes())?) {
+    are_children_in(alloc, path, names.as_slice(), known, whole)
+}
+
+/// Returns the name of the first of some paths, if this path is directly below another path.
+fn first_name<'a>(paths: &'a BTreeSet<TreePath>, path: &TreePath) -> Option<&'a Name>
+    ensures { IfSome result (λ name. is_one_of paths.now.keys (path.now ++ name.now ∷ []) ≡ true) }
+{
+    name_below(path, paths.first()?)
+}
+
+/// Returns whether the children of some names are among some paths. One name may be known to be that of such a child.
+fn are_children_in(
+    alloc: Global,
+    path: &TreePath,
+    names: &[Name],
+    known: Option<&Name>,
+    whole: &BTreeSet<TreePath>,
+) -> Result<bool, AllocError>
+    requires { IfSome known (λ name. is_one_of whole.now.keys (path.now ++ name.now ∷ []) ≡ true) }
+    ensures { IfOk result (λ all. all ≡ list_all (λ n. is_one_of whole.now.keys (path.now ++ n ∷ [])) names.now) }
+{
+    for name in names {
+        if !is_child_in(alloc, path, name, known, whole)? {
             return Ok(false);
         }
     }
     Ok(true)
 }
 
-/// Returns whether a path is among some paths, of which it is often the first.
-fn is_soon_among(paths: &BTreeSet<TreePath>, path: &TreePath) -> bool
-    ensures { result ≡ is_one_of paths.now.keys path.now }
+/// Returns whether the child of a name is among some paths. One name may be known to be that of such a child.
+fn is_child_in(
+    alloc: Global,
+    path: &TreePath,
+    name: &Name,
+    known: Option<&Name>,
+    whole: &BTreeSet<TreePath>,
+) -> Result<bool, AllocError>
+    requires { IfSome known (λ name. is_one_of whole.now.keys (path.now ++ name.now ∷ []) ≡ true) }
+    ensures { IfOk result (λ is_in. is_in ≡ is_one_of whole.now.keys (path.now ++ name.now ∷ [])) }
 {
-    match paths.first() {
-        Some(first) if first == path => true,
-        _ => is_among(paths, path),
+    match known {
+        Some(first) if first == name => Ok(true),
+        _ => Ok(is_among(whole, &child(alloc, path, name.bytes())?)),
     }
 }
 

@@ -13,9 +13,12 @@ use Rattle.pv_steps.proofs.TryingLaws.{acted_all, ask_can, tried_whole}
 use Rattle.pv_walk.specs.Edits.{Pruned}
 use Rattle.pv_walk.specs.Removal.{is_one_of, removal_at}
 use Rattle.pv_walk.proofs.SweepLaws.{pruned-none}
-use Rattle.pv_walk.proofs.TakingLaws.{all_without, removals_ask, removals_part, steps_of}
+use Rattle.pv_walk.proofs.TakingLaws.{all_without, removable_present, removals_ask, removals_part, steps_of}
 use Rattle.pv_walk.proofs.remove.remove_all.Goals as goal
 use Rattle.pv_path.proofs.Tests.{on_ok}
+
+pub removals-requires : goal.removals-requires
+removals-requires g c = removable_present (g.T.Tree.state c.args.tree.now) c.args.paths.items c.requires
 
 pub try_all-requires : goal.try_all-requires
 try_all-requires g c =

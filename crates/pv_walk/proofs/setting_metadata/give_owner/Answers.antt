@@ -3,12 +3,12 @@ use Rattle.pv_steps.specs.declared.step.Step.TheVariants.{SetOwner}
 use Rattle.pv_steps.proofs.ActingLaws.{acted_tried}
 use Rattle.pv_walk.specs.SettingMetadata.{with_owner_of}
 use Rattle.pv_walk.specs.Changing.{Changing}
-use Rattle.pv_walk.proofs.ChangingLaws.{owner_none, owner_asks, owner_ok}
+use Rattle.pv_walk.proofs.ChangingLaws.{kept_none, owner_asks, owner_ok}
 use Rattle.pv_walk.proofs.setting_metadata.give_owner.Goals as goal
 
-pub returns-then-has_owner-clause-ok : goal.returns-then-has_owner-clause-ok
-returns-then-has_owner-clause-ok g c =
-    owner_none c.args.path.now c.args.new.now (g.T.Tree.state c.args.tree.now) c.requires c.node_of.result.now c.node_of.ensures.node c.args.now (c.has_owner.ensures.0 c.if-has_owner.true)
+pub returns-then-kept-clause-ok : goal.returns-then-kept-clause-ok
+returns-then-kept-clause-ok g c =
+    kept_none c.args.path.now c.args.new.now (g.T.Tree.state c.args.tree.now) c.requires.can (with_owner_of c.args.new.now) (c.requires.kept.0 c.if-kept.true) c.args.now
 
 pub returns-clause-acted : goal.returns-clause-acted
 returns-clause-acted g c =
@@ -17,10 +17,9 @@ returns-clause-acted g c =
     let t = g.T.Tree.state c.args.tree.now in
     acted_tried g.T.Tree (Changing path (with_owner_of new) t) (λ step. step ≡ SetOwner path new.uid new.gid) (SetOwner path new.uid new.gid) c.args.now
     c.args.tree.now c.try_step.new.tree c.try_step.result (rw c.in_ok-copy.ensures at c.try_step.ensures)
-    (owner_asks path new t c.requires c.node_of.result.now c.node_of.ensures.node c.args.now (λ h. let yes : c.has_owner.result ≡ true = c.has_owner.ensures.1 h in cc))
+    (owner_asks path new t c.requires.can c.args.now (λ h. let yes : c.args.kept ≡ true = c.requires.kept.1 h in cc))
 
 pub returns-clause-ok : goal.returns-clause-ok
 returns-clause-ok g c =
-    owner_ok c.args.path.now c.args.new.now (g.T.Tree.state c.args.tree.now) c.requires c.node_of.result.now c.node_of.ensures.node c.args.now
-    (λ h. let yes : c.has_owner.result ≡ true = c.has_owner.ensures.1 h in cc)
+    owner_ok c.args.path.now c.args.new.now (g.T.Tree.state c.args.tree.now) c.requires.can c.args.now (λ h. let yes : c.args.kept ≡ true = c.requires.kept.1 h in cc)
     c.try_step.result (g.T.Tree.state c.try_step.new.tree) (rw c.in_ok-copy.ensures at c.try_step.ensures.state)

@@ -2,7 +2,7 @@ use Rattle.std.proofs.Common.{◌≡◌, sym, ap, ◌∙◌, [], Bool}
 use Rattle.std.proofs.lemmas.List.{nil_from_length}
 use Rattle.pv_path.specs.Paths.{Path}
 use Rattle.pv_walk.specs.Whole.{goes_whole}
-use Rattle.pv_walk.proofs.WholeLaws.{deciding_start, deciding_next, deciding_end}
+use Rattle.pv_walk.proofs.WholeLaws.{decided_present, deciding_start, deciding_next, deciding_end}
 use Rattle.pv_walk.proofs.whole_subtrees.whole_of.Goals as goal
 
 pub loop-path-init : goal.loop-path-init
@@ -18,3 +18,7 @@ returns g c = λ q.
     let none : c.loop-path.left.items ≡ [] = nil_from_length c.loop-path.left.items (sym c.loop-path.left.ok.0 ∙ c.in_default.ensures.cases.0) in
     deciding_end c.in_order-left.result.items (g.T.Tree.state c.args.tree.now) c.loop-path.whole.keys (rw none at c.loop-path.invariant) q
     ∙ ap (λ (f : Path → Bool). goes_whole f (g.T.Tree.state c.args.tree.now) q) (λ i r. c.in_order-left.ensures.members r i)
+
+pub add_whole-requires : goal.add_whole-requires
+add_whole-requires g c =
+    decided_present c.in_order-left.result.items (g.T.Tree.state c.args.tree.now) c.loop-path.left.items c.loop-path.whole.keys c.loop-path.invariant

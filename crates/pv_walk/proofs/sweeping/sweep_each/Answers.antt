@@ -11,7 +11,7 @@ use Rattle.pv_walk.specs.Edits.{Pruned, taken, all_taken, count_at}
 use Rattle.pv_walk.specs.Staging.{staging_names, is_under_any, count_at_all, can_stage}
 use Rattle.pv_walk.proofs.SweepLaws.{short_last, all_taken-more, count-more, count-le, under_any, pruned_count, length-staging_names}
 use Rattle.pv_walk.proofs.Removing.{prune_then}
-use Rattle.pv_walk.proofs.sweeping.sweep.Goals as goal
+use Rattle.pv_walk.proofs.sweeping.sweep_each.Goals as goal
 
 -- the place is one name longer
 next_place : (path place next items : Path) (i : ℕ) (name : List ℕ) → items ≡ path → place ≡ take i path → name ≡ get_or items i name → i < length items → next ≡ place ++ name ∷ [] → next ≡ take (i + 1) path

@@ -5,7 +5,7 @@ use Rattle.pv_steps.specs.Acting.{Acted}
 use Rattle.pv_steps.proofs.ActingLaws.{well}
 use Rattle.pv_walk.specs.Edits.{Pruned, all_taken}
 use Rattle.pv_walk.specs.Staging.{staging_names, is_under_any, count_at_all}
-use Rattle.pv_walk.proofs.sweeping.sweep.Given as goal
+use Rattle.pv_walk.proofs.sweeping.sweep_each.Given as goal
 
 abbrev pub invariant-loop-name : goal.invariant-loop-name
 invariant-loop-name g l = record {

@@ -1,7 +1,7 @@
 use Rattle.std.proofs.Common.{◌≡◌, ◌++◌, [], ◌∷◌, take, true}
 use Rattle.std.specs.List.{list_all}
 use Rattle.pv_walk.specs.Removal.{is_one_of}
-use Rattle.pv_walk.proofs.whole_subtrees.has_children_in.Given as goal
+use Rattle.pv_walk.proofs.whole_subtrees.are_children_in.Given as goal
 
 abbrev pub invariant-loop-name : goal.invariant-loop-name
-invariant-loop-name g l = list_all (λ n. is_one_of l.whole.keys (l.path ++ n ∷ [])) (take l.name-index l.name-items) ≡ true
+invariant-loop-name l = list_all (λ n. is_one_of l.whole.keys (l.path ++ n ∷ [])) (take l.name-index l.names) ≡ true

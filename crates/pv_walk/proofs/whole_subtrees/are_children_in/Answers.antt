@@ -1,0 +1,11 @@
+use Rattle.std.proofs.Common.{sym, ap, ◌∙◌, [], ◌∷◌, ◌++◌, List, ℕ}
+use Rattle.std.specs.List.{list_all}
+use Rattle.std.proofs.lemmas.List.{take_all}
+use Rattle.pv_walk.specs.Removal.{is_one_of}
+use Rattle.pv_walk.proofs.whole_subtrees.are_children_in.Goals as goal
+
+pub returns : goal.returns
+returns c =
+    sym c.loop-name.invariant
+    ∙ ap (λ (ns : List (List ℕ)). list_all (λ n. is_one_of c.args.whole.now.keys (c.args.path.now ++ n ∷ [])) ns)
+    (take_all c.loop-name.name-index c.args.names.now c.loop-name-test.false)
