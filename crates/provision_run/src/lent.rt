@@ -3,7 +3,7 @@ ghost use Rattle.std.specs.Prelude.{◌≡◌};
 ghost use Rattle.provision_run.specs.Lending.{HaveCounted, counted_none, counted_on, one_name, same_name};
 ghost use Rattle.std.proofs.Common.{arith};
 
-use pv_path::{NameList, TreePath};
+use pv_path::{Name, NameList, TreePath};
 use pv_steps::{Node, Step, Tree, TreeFault};
 use std::alloc::{AllocError, Global};
 
@@ -39,6 +39,14 @@ impl<'a, T: Tree> Tree for Lent<'a, T> {
 
     fn look(&self, path: &TreePath) -> Option<&Node> {
         self.tree.look(path)
+    }
+
+    fn look_along(&self, alloc: Global, path: &TreePath) -> Result<Vec<&Node>, AllocError> {
+        self.tree.look_along(alloc, path)
+    }
+
+    fn has_beside(&self, path: &TreePath, names: &[Name]) -> bool {
+        self.tree.has_beside(path, names)
     }
 
     fn list(&self, alloc: Global, path: &TreePath) -> Result<NameList, AllocError> {

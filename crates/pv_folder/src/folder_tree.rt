@@ -17,7 +17,7 @@ ghost use Rattle.pv_folder.specs.Sole.{agrees_prop, ready_prop};
 use crate::asking::ask_for;
 use crate::closing::replace_manifest;
 use crate::host::{Host, HostFault};
-use pv_path::{NameList, TreePath};
+use pv_path::{Name, NameList, TreePath};
 use pv_steps::{Node, Step, Tree, TreeFault};
 use pv_tree::{MemTree, parts_fit};
 use std::alloc::{AllocError, Global};
@@ -139,6 +139,14 @@ impl<'a, H: Host> Tree for FolderTree<'a, H> {
 
     fn look(&self, path: &TreePath) -> Option<&Node> {
         self.tree.node_at(path)
+    }
+
+    fn look_along(&self, alloc: Global, path: &TreePath) -> Result<Vec<&Node>, AllocError> {
+        self.tree.look_along(alloc, path)
+    }
+
+    fn has_beside(&self, path: &TreePath, names: &[Name]) -> bool {
+        self.tree.has_beside(path, names)
     }
 
     fn list(&self, alloc: Global, path: &TreePath) -> Result<NameList, AllocError> {

@@ -193,7 +193,7 @@ impl Host for MemHost {
         ensures counted { self.new.plan.calls ≡ call_after self.old.plan.calls }
     {
         self.plan.begin_call()?;
-        let alloc = self.plan.alloc();
+        let alloc = *self.changes.allocator();
         let path = named_path(alloc, path)?;
         let bytes = Bytes::copy_of(alloc, bytes)?;
         let change = HostChange::WriteFile { path, bytes };
@@ -213,7 +213,7 @@ impl Host for MemHost {
         ensures counted { self.new.plan.calls ≡ call_after self.old.plan.calls }
     {
         self.plan.begin_call()?;
-        let alloc = self.plan.alloc();
+        let alloc = *self.changes.allocator();
         let path = named_path(alloc, path)?;
         let change = HostChange::MakeDir { path };
         do_recorded(alloc, &mut self.tree, &mut self.changes, change)
@@ -232,7 +232,7 @@ impl Host for MemHost {
         ensures counted { self.new.plan.calls ≡ call_after self.old.plan.calls }
     {
         self.plan.begin_call()?;
-        let alloc = self.plan.alloc();
+        let alloc = *self.changes.allocator();
         let from = named_path(alloc, from)?;
         let to = named_path(alloc, to)?;
         let change = HostChange::Rename { from, to };
@@ -267,7 +267,7 @@ impl Host for MemHost {
         ensures counted { self.new.plan.calls ≡ call_after self.old.plan.calls }
     {
         self.plan.begin_call()?;
-        let alloc = self.plan.alloc();
+        let alloc = *self.changes.allocator();
         let path = named_path(alloc, path)?;
         let change = HostChange::RemoveFile { path };
         do_recorded(alloc, &mut self.tree, &mut self.changes, change)
@@ -286,7 +286,7 @@ impl Host for MemHost {
         ensures counted { self.new.plan.calls ≡ call_after self.old.plan.calls }
     {
         self.plan.begin_call()?;
-        let alloc = self.plan.alloc();
+        let alloc = *self.changes.allocator();
         let path = named_path(alloc, path)?;
         let change = HostChange::RemoveDir { path };
         do_recorded(alloc, &mut self.tree, &mut self.changes, change)

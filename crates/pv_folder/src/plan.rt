@@ -6,7 +6,6 @@ ghost use Rattle.pv_io.specs.Memory.{fresh};
 ghost use Rattle.pv_folder.specs.Counts.{count_after};
 
 use crate::host::HostFault;
-use std::alloc::Global;
 use std::marker::Model;
 
 /// A plan of the calls of a host that fail.
@@ -31,11 +30,6 @@ impl Plan {
         Plan {
             calls: pv_io::Plan::new(fails),
         }
-    }
-
-    /// Returns the allocator of the plan.
-    pub(crate) fn alloc(&self) -> Global {
-        self.calls.alloc()
     }
 
     /// Counts a call. It fails if the plan has its number.
