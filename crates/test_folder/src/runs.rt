@@ -111,8 +111,8 @@ pub(crate) fn failures(
     format!(in alloc; "too many calls")
 }
 
-/// After how many numbers of steps a run is stopped, and after which of them a complete run leaves other objects than one whole
-/// run.
+/// After how many numbers of steps a run can be stopped, and after which of them a second, complete run leaves other
+/// objects than one complete run.
 pub(crate) fn stops(alloc: Global, words: &str, image: &[u8]) -> Result<String, AllocError> {
     let wanted = wanted_of(alloc, words, image)?;
     let mut others = String::new(alloc);

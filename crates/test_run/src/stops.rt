@@ -38,8 +38,8 @@ fn is_recovered(
     Ok(left.as_slice() == wanted)
 }
 
-/// After how many numbers of steps a run is stopped. It also tells after which of them an object is gone that a
-/// complete run leaves, or one is there that was not.
+/// After how many numbers of steps a run can be stopped, and after which of them a second, complete run leaves other
+/// objects than one complete run.
 pub(crate) fn stops(alloc: Global, words: &str, input: &[u8]) -> Result<String, AllocError> {
     let (whole, _) = run(alloc, words, input)?;
     let wanted = objects(alloc, &whole)?;
@@ -98,8 +98,8 @@ fn holds(text: &[u8], lines: &[u8]) -> bool {
         .all(|line| has_line(text, line))
 }
 
-/// After how many numbers of steps a run is stopped. It also tells after which of them an object is gone that a
-/// complete run leaves, or one is there that was not.
+/// After how many numbers of steps a run that removes can be stopped. It also gives after which of them an object is
+/// gone that a complete run leaves, or one is there that was not there before.
 pub(crate) fn takings(alloc: Global, words: &str, input: &[u8]) -> Result<String, AllocError> {
     let (whole, _) = run(alloc, words, input)?;
     let (old, left) = (objects(alloc, input)?, objects(alloc, &whole)?);

@@ -14,7 +14,7 @@ use pv_tree::{BuildFault, Fused, MemTree, Probe, TreeBuilder, WalkEntry, find};
 use std::alloc::Global;
 use std::cmp::Ordering;
 use std::process::Abort;
-use test_sheet::plain_object;
+use test_sheet::{letter_of, plain_object};
 
 /// Names of one byte beside one that is sought.
 #[derive(Drop)]
@@ -371,6 +371,67 @@ fn lends_payloads(rt: HostRuntime) {
     assert!(rt; lends_both(&rt, rt.alloc(), &tree));
     let tree = Fused::new(tree, Some(0));
     assert!(rt; lends_both(&rt, rt.alloc(), &tree));
+}
+
+/// Paths in the tree of `ANYWHERE`, and the kinds of the objects along them, a letter each.
+const ALONG: &[(&[u8], &[u8])] = &[
+    (b"/", b"d"),
+    (b"/a/f", b"ddf"),
+    (b"/a/f/x", b"ddf"),
+    (b"/a/q/f", b"dd"),
+    (b"/m/l", b"ddl"),
+    (b"/m/l/x", b"ddl"),
+    (b"/q", b"d"),
+];
+
+/// Paths, the names beside them in the form of a path, and whether one of these names is in the tree of `ANYWHERE`.
+const BESIDE: &[(&[u8], &[u8], bool)] = &[
+    (b"/", b"/a", false),
+    (b"/q", b"/a", true),
+    (b"/a", b"/q", false),
+    (b"/a", b"/q/f", false),
+    (b"/a/q", b"/q/f", true),
+    (b"/a/q/q", b"/q/f", true),
+    (b"/a/q", b"/f/a", false),
+    (b"/q/q", b"/f/f", false),
+    (b"/q/q/q", b"/z", true),
+    (b"/a/f/q", b"/q/q/f", false),
+];
+
+/// The kinds of the objects along a path, a letter each.
+fn kinds_along<T: Tree>(rt: &impl Abort, alloc: Global, tree: &T, text: &[u8]) -> Vec<u8> {
+    let path = path_of(rt, alloc, text);
+    let mut kinds = Vec::new(alloc);
+    let nodes = tree.look_along(alloc, &path).expect(rt, "memory");
+    for node in &nodes {
+        let letter = letter_of(node.kind).as_bytes();
+        kinds.extend_from_slice(letter).expect(rt, "memory");
+    }
+    kinds
+}
+
+#[test]
+fn looks_along_a_path(rt: HostRuntime) {
+    let tree = Fused::new(added_anywhere(&rt, rt.alloc()), None);
+    for &(path, kinds) in ALONG {
+        let found = kinds_along(&rt, rt.alloc(), tree.inner(), path);
+        assert!(rt; found.as_slice() == kinds, "{found:?}");
+        let limited = kinds_along(&rt, rt.alloc(), &tree, path);
+        assert!(rt; limited.as_slice() == kinds, "{limited:?}");
+    }
+}
+
+#[test]
+fn looks_for_names_beside_a_path(rt: HostRuntime) {
+    let tree = Fused::new(added_anywhere(&rt, rt.alloc()), None);
+    for &(path, names, want) in BESIDE {
+        let at = path_of(&rt, rt.alloc(), path);
+        let others = path_of(&rt, rt.alloc(), names);
+        let has = tree.inner().has_beside(&at, others.names());
+        assert!(rt; has == want, "{path:?} {names:?}");
+        let limited = tree.has_beside(&at, others.names());
+        assert!(rt; limited == want, "{path:?} {names:?}");
+    }
 }
 
 /// A limit, how two steps end under it, and the names in the root that are left.
