@@ -3,10 +3,13 @@
 # Each row: the shape, the least seconds of processor time of three runs, what it is compared with and how many times
 # that is, and the most memory in MiB. The program is built anew before, and each run has a stack of 256 KiB.
 # With a folder as its argument it only makes the images there.
+# If PROGRAM is the path of a build of the program, this build is measured, and none is made.
+# If BESIDE is the path of another build, each row is measured with both, in turn.
+# At the end come rows beside sha256sum and, if it is installed, systemd-tmpfiles (bench/beside.py).
 set -eu
 
 top=$(cd "$(dirname "$0")/.." && pwd)
-program=$top/crates/provision/out/provision
+program=${PROGRAM:-$top/crates/provision/out/provision}
 version=$(sed -n 's/^tree-image //p' "$top/examples/run-app.image")
 
 # columns PAYLOAD: what stands behind the stamps of an object of the image's version
@@ -75,6 +78,10 @@ deep() {
     path = "/a"; for (i = 0; i < count; i++) { printf "d %s 0755 0 0 0,0,0,0 %s\n", path, rest; path = path "/a" } }'
   head_of 'Z /a 0700' | tail -n +3; echo end
 }
+
+# below COUNT: so many lines, each for a directory in that of the line before
+below_lines() { awk -v count="$1" 'BEGIN { for (i = 0; i < count; i++) { path = path "/a"; printf "d %s 0755 0 0\n", path } }'; }
+below() { head_of "$(below_lines "$1")"; echo end; }
 
 # levels COUNT: one line of so many levels
 deep_path() { awk -v count="$1" 'BEGIN { for (i = 0; i < count; i++) printf "/a" }'; }
@@ -160,16 +167,27 @@ words='systemd-tmpfiles --create'
 
 folder=${1:-}
 only_images=$folder
-if [ -z "$folder" ]; then folder=$(mktemp -d); trap 'rm -rf "$folder"' EXIT; build; fi
+if [ -z "$folder" ]; then folder=$(mktemp -d); trap 'rm -rf "$folder"' EXIT; [ -n "${PROGRAM:-}" ] || build; fi
+
+# once PROGRAM NAME: the seconds and the KiB of one run over the image of this name
+once() {
+  (ulimit -s 256; /usr/bin/time -q -f '%U %S %M' -o "$folder/time" "$1" $words < "$folder/$2" > "$folder/out"
+   awk '{ print $1 + $2, $3 }' "$folder/time")
+}
+
+# least A B: the lesser of two numbers, of which the first may be empty
+least() { awk -v a="$1" -v b="$2" 'BEGIN { print (a == "" || b < a) ? b : a }'; }
 
 # measure NAME: the least seconds and the most MiB of three runs over the image of this name
 measure() {
-  best=
+  best= other_best=
   for _ in 1 2 3; do
-    read -r user kernel memory < <( (ulimit -s 256; /usr/bin/time -q -f '%U %S %M' -o "$folder/time" \
-      "$program" $words < "$folder/$1" > "$folder/out"; cat "$folder/time") )
-    best=$(awk -v best="$best" -v user="$user" -v kernel="$kernel" 'BEGIN {
-      now = user + kernel; print (best == "" || now < best) ? now : best }')
+    if [ -n "${BESIDE:-}" ]; then
+      read -r seconds other_memory < <(once "$BESIDE" "$1")
+      other_best=$(least "$other_best" "$seconds")
+    fi
+    read -r seconds memory < <(once "$program" "$1")
+    best=$(least "$best" "$seconds")
   done
   grep -q '^end$\|^: generated ' "$folder/out" || { echo "bench: no image came out for $1" >&2; exit 1; }
   mebibytes=$((memory / 1024))
@@ -185,8 +203,10 @@ row() {
   megabytes=$(awk -v a="$(wc -c < "$folder/$name")" -v b="$(wc -c < "$folder/out")" 'BEGIN { print (a + b) / 1e6 }')
   compared=
   [ "$other" = - ] || eval "compared=\$(awk -v a=$best -v b=\$seconds_$other 'BEGIN { printf \"%.1f times $other\", a / (b > 0 ? b : 0.01) }')"
-  awk -v n="$name" -v s="$best" -v m="$megabytes" -v k="$mebibytes" -v c="$compared" 'BEGIN {
-    printf "%-14s %6.2f s  %7.1f MB  %6.1f MB/s  %5d MiB  %s\n", n, s, m, m / (s > 0 ? s : 0.01), k, c }'
+  beside=
+  [ -z "${BESIDE:-}" ] || beside="  beside: $other_best s, $((other_memory / 1024)) MiB"
+  awk -v n="$name" -v s="$best" -v m="$megabytes" -v k="$mebibytes" -v c="$compared" -v b="$beside" 'BEGIN {
+    printf "%-14s %6.2f s  %7.1f MB  %6.1f MB/s  %5d MiB  %s%s\n", n, s, m, m / (s > 0 ? s : 0.01), k, c, b }'
 }
 
 row wide10k     -        wide 10000
@@ -197,6 +217,7 @@ row spread300k  spread10k spread 300000
 row read2000    -        nested '# none' 2000
 row read4000    read2000 nested '# none' 4000
 row lines1k     -        many 1000
+row lines2k     lines1k  many 2000
 row lines10k    lines1k  many 10000
 row among1k     wide100k among 1000 100000
 row present2k   -        present 2000
@@ -207,6 +228,8 @@ row pattern10k  -        pattern 10000
 row pattern100k pattern10k pattern 100000
 row deep500     -        deep 500
 row deep2000    deep500  deep 2000
+row below200    -        below 200
+row below400    below200 below 400
 row levels500   -        levels 500
 row levels2000  levels500 levels 2000
 row chain500    -        chain 500
@@ -246,3 +269,4 @@ words='systemd-tmpfiles --explain=/g/d00500'
 row saidamong   readamong among 1000 300000
 words='systemd-tmpfiles --create'
 row rundrawn    readdrawn drawn 2000
+[ -n "$only_images" ] || python3 "$top/bench/beside.py" "$folder" "$program" ${BESIDE:+"$BESIDE"}
