@@ -1,7 +1,9 @@
 //! Trees that can be read and changed: what a caller may ask of one, and why a step is not done.
-ghost use Rattle.std.specs.Prelude.{◌≡◌, ℕ, ◌+◌, ◌∷◌, ◌++◌, [], ◌≤◌, List, length, take, slice_get, Some, is_some, IfOk, OnOk, OnErr, IsErrOf};
+ghost use Rattle.std.specs.Prelude.{◌≡◌, ℕ, ◌+◌, ◌∷◌, ◌++◌, [], ◌≤◌, List, length, filter, take, slice_get, Some, is_some, IfOk, OnOk, OnErr, IsErrOf};
 ghost use Rattle.std.specs.List.{list_any};
 ghost use Rattle.std.specs.Option.{option_copied};
+ghost use Rattle.std.specs.FinMap as fin;
+ghost use Rattle.pv_path.specs.Paths.{is_prefix};
 ghost use Rattle.pv_steps.specs.declared.step.Step.{Step as StepValue};
 ghost use Rattle.pv_steps.specs.declared.tree.TreeFault.TheVariants.{Failed, Memory};
 ghost use Rattle.pv_steps.specs.declared.node.Kind.TheVariants.{Directory, File, Link};
@@ -95,6 +97,16 @@ pub trait Tree {
     fn list(&self, alloc: Global, path: &TreePath) -> Result<NameList, AllocError>
         requires { IsKind Directory (state self.now) path.now }
         ensures names { IfOk result (λ names. names ≡ names_below (state self.now) path.now) };
+
+    /// Returns the paths of all objects at and below a path, in byte order. So a directory comes before what is in it.
+    ///
+    /// The list is empty if the path is absent. For the trees of this library, time grows with the number of names in
+    /// the path and in the listed paths. The call does not follow links. The only error is `AllocError`.
+    ///
+    /// For example, if `/run` has only the directory `app` with the file `x`, the answer for `/run` is `/run`,
+    /// `/run/app` and `/run/app/x`.
+    fn at_and_below(&self, alloc: Global, path: &TreePath) -> Result<Vec<TreePath>, AllocError>
+        ensures paths { IfOk result (λ paths. paths.items ≡ filter (is_prefix path.now) (fin.keys (state self.now))) };
 
     /// Returns the bytes of the file at a path, at which there must be a regular file. The call does not allocate.
     fn bytes(&self, path: &TreePath) -> &[u8]
