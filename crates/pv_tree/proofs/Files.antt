@@ -106,7 +106,7 @@ find_other n m p (x ∷ es) e = ap (λ b. cond b (Some x.1) (find path_cmp (n �
     apart Equal e = (let no : true ≡ false = e in cc)
     apart Greater e = refl
 
-not_below : (n m : List ℕ) (cs : List (List ℕ × ℕ)) → n ≡ m → T (below_all name_cmp m cs) → find name_cmp n cs ≡ None
+pub not_below : (n m : List ℕ) (cs : List (List ℕ × ℕ)) → n ≡ m → T (below_all name_cmp m cs) → find name_cmp n cs ≡ None
 not_below n m [] e h = refl
 not_below n m (c ∷ cs) e h =
     ap (λ o. cond (is_eq o) (Some c.1) (find name_cmp n cs)) (ap (λ v. name_cmp v c.0) e ∙ less_of-T (name_cmp m c.0) (each_T _ _ h).0) ∙ not_below n m cs e (each_T _ _ h).1

@@ -14,3 +14,4 @@ pub mod FuseLaws
 pub mod PlanLaws
 pub mod GrowLaws
 pub mod AlongLaws
+pub mod BelowLaws

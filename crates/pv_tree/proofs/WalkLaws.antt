@@ -77,7 +77,7 @@ module _ (slots : List Slot) where
   -- ---- what is left
 
   -- all of a slot, where the walk just comes to it
-  fresh_slot : (depth j : ℕ) → left_in true depth slots [] ((j, 0) ∷ []) ≡ entries_in depth slots j
+  pub fresh_slot : (depth j : ℕ) → left_in true depth slots [] ((j, 0) ∷ []) ≡ entries_in depth slots j
   fresh_slot zero j = refl
   fresh_slot (suc depth) j = elim (slice_get slots j) as (λ o.
       option_map_or (λ s. ([], object_of s) ∷ []) o [] ++ entries_below (entries_in depth slots) (option_map_or (λ s. fin.entries s.content.children) o [])
@@ -89,7 +89,7 @@ module _ (slots : List Slot) where
       ap (entries_below (entries_in depth slots)) (drop_there (children_in slots i) k (n, j) e)
       ∙ ap (λ v. map (below n) (entries_in depth slots j) ++ below_from depth slots i v) (sym next)
 
-  no_child_left : (depth i k : ℕ) → slice_get (children_in slots i) k ≡ None → below_from depth slots i k ≡ []
+  pub no_child_left : (depth i k : ℕ) → slice_get (children_in slots i) k ≡ None → below_from depth slots i k ≡ []
   no_child_left depth i k e = ap (entries_below (entries_in depth slots)) (drop_past (children_in slots i) k e)
 
   -- a slot opened

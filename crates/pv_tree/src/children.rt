@@ -235,6 +235,13 @@ impl Children {
         }
     }
 
+    /// How many children there are. It takes no memory.
+    pub(crate) fn count(&self) -> usize
+        ensures { result ≡ length (fin.entries self.now) }
+    {
+        self.entries.len()
+    }
+
     /// The number of the child with a name, or nothing if there is none. It takes no memory.
     pub(crate) fn get(&self, name: &Name) -> Option<usize>
         ensures { result ≡ fin.get self.now name.now }

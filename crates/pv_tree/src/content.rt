@@ -1,5 +1,5 @@
 //! What an object of the tree holds: a payload or children, and mostly neither.
-ghost use Rattle.std.specs.Prelude.{◌≡◌, ◌+◌, ◌^◌, ◌<◌, [], IfOk, IfSome, OnOk, OnErr, slice_get};
+ghost use Rattle.std.specs.Prelude.{◌≡◌, ◌+◌, ◌^◌, ◌<◌, [], length, IfOk, IfSome, OnOk, OnErr, slice_get};
 ghost use Rattle.std.specs.Option.{option_copied};
 ghost use Rattle.std.specs.FinMap as fin;
 ghost use Rattle.pv_tree.specs.Forms.{content_in};
@@ -124,6 +124,17 @@ impl Content {
         match &mut self.form {
             Form::Family(family) => family.children.remove(name),
             Form::Nothing | Form::Payload(_) => None,
+        }
+    }
+
+    /// How many children there are. It takes no memory.
+    #[tactic(auto, using(crate::proofs::Names::no_entries))]
+    pub(crate) fn child_count(&self) -> usize
+        ensures { result ≡ length (fin.entries self.now.children) }
+    {
+        match &self.form {
+            Form::Family(family) => family.children.count(),
+            Form::Nothing | Form::Payload(_) => 0,
         }
     }
 

@@ -96,6 +96,10 @@ impl<T: Tree> Tree for Fused<T> {
         self.inner.list(alloc, path)
     }
 
+    fn at_and_below(&self, alloc: Global, path: &TreePath) -> Result<Vec<TreePath>, AllocError> {
+        self.inner.at_and_below(alloc, path)
+    }
+
     fn bytes(&self, path: &TreePath) -> &[u8] {
         self.inner.bytes(path)
     }

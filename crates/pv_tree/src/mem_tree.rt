@@ -19,7 +19,7 @@ use crate::edits::{put_below, set_node_at};
 use crate::slot::Slot;
 use crate::slots::{has_beside, nodes_along, root_slots};
 use crate::step_log::{StepLog, directory_by, slot_at, slot_of};
-use crate::walk::Walk;
+use crate::walk::{Walk, paths_left};
 use pv_path::{Bytes, Name, NameList, TreePath};
 use pv_steps::{Kind, Node, Object, Step, Tree, TreeFault};
 use std::alloc::{AllocError, Global};
@@ -232,6 +232,11 @@ impl Tree for MemTree {
 
     fn list(&self, alloc: Global, path: &TreePath) -> Result<NameList, AllocError> {
         self.names_at(alloc, path)
+    }
+
+    fn at_and_below(&self, alloc: Global, path: &TreePath) -> Result<Vec<TreePath>, AllocError> {
+        let mut walk = Walk::below(alloc, &self.slots, path.names())?;
+        paths_left(alloc, &mut walk)
     }
 
     fn bytes(&self, path: &TreePath) -> &[u8] {

@@ -1,11 +1,14 @@
-//! A walk over all objects of a tree, in the order of their paths.
-ghost use Rattle.std.specs.Prelude.{◌≡◌, ℕ, ◌+◌, ◌<◌, ◌^◌, List, [], ◌∷◌, ◌++◌, length, drop, true, false, Some, None, IfOk, IfSome, OnOk, OnErr, slice_get};
+//! A walk over all objects of a tree, or over those at and below a path, in the order of their paths.
+ghost use Rattle.std.specs.Prelude.{◌≡◌, ℕ, ◌+◌, ◌<◌, ◌^◌, List, [], ◌∷◌, ◌++◌, length, drop, filter, map, true, false, Some, None, IfOk, IfSome, OnOk, OnErr, slice_get};
 ghost use Rattle.std.specs.Option.{option_copied, option_map};
+ghost use Rattle.std.specs.List.{list_all};
+ghost use Rattle.pv_path.specs.Paths.{has_names, is_prefix};
 ghost use Rattle.pv_tree.specs.Slots.{IsForest, entries_in};
 ghost use Rattle.pv_tree.specs.Walks.{IsWay, children_in, left_in};
 
 use crate::slot::Slot;
-use pv_path::Name;
+use crate::slots::child_of;
+use pv_path::{Name, TreePath};
 use pv_steps::Node;
 use std::alloc::{AllocError, Global};
 use std::marker::Model;
@@ -21,7 +24,8 @@ pub struct WalkEntry<'a> {
     pub payload: &'a [u8],
 }
 
-/// A walk over all objects of a tree in the order of their paths: a directory comes before what is in it.
+/// A walk over all objects of a tree, or over those at and below a path. They come in the order of their paths: a
+/// directory comes before what is in it.
 ///
 /// In contracts, a value is the list of the paths and objects that are left, the current one first.
 #[derive(Drop)]
@@ -61,9 +65,28 @@ impl<'a> Walk<'a> {
         })
     }
 
+    /// Returns a walk over the objects at and below the path of some names, over slots that make a tree. If the path is
+    /// absent, the walk is at its end.
+    pub(crate) fn below(
+        alloc: Global,
+        slots: &'a Vec<Slot>,
+        names: &[Name],
+    ) -> Result<Walk<'a>, AllocError>
+        requires { IsForest slots.now.items }
+        ensures { IfOk result (λ walk. walk
+            ≡ filter (λ e. is_prefix names.now e.0) (entries_in (length slots.now.items) slots.now.items 0)) }
+    {
+        let opened = opened_along(alloc, slots, names)?;
+        Ok(Walk {
+            slots,
+            names: names.to_vec(alloc)?,
+            opened,
+        })
+    }
+
     /// Returns the current object of the walk, or `None` if the walk is at its end. The call does not allocate.
     ///
-    /// For example, the first answer for a new walk is the root.
+    /// For example, the first answer for a walk that `MemTree::walk` begins is the root.
     pub fn place(&self) -> Option<WalkEntry<'_>>
         ensures { option_map (λ p. (p.names.now, record { node = p.node.now; payload = p.payload.now })) result
             ≡ slice_get self.now 0 }
@@ -97,6 +120,54 @@ impl<'a> Walk<'a> {
             }
         }
     }
+}
+
+/// Returns how many children a slot has.
+fn child_count(slots: &Vec<Slot>, number: usize) -> usize
+    ensures { result ≡ length (children_in slots.now.items number) }
+{
+    match slots.get(number) {
+        Some(slot) => slot.content.child_count(),
+        None => 0,
+    }
+}
+
+/// Returns the slots along the path of some names, opened for a walk over the objects at and below this path. The slots
+/// above the path have no child left to visit. The list is empty if the path is absent.
+fn opened_along(
+    alloc: Global,
+    slots: &Vec<Slot>,
+    names: &[Name],
+) -> Result<Vec<(usize, usize)>, AllocError>
+    ensures way { IfOk result (λ opened. IsWay slots.now.items names.now opened.items) }
+    ensures left { IfOk result (λ opened. left_in true (length slots.now.items) slots.now.items names.now opened.items
+        ≡ filter (λ e. is_prefix names.now e.0) (entries_in (length slots.now.items) slots.now.items 0)) }
+{
+    let mut opened = Vec::with_capacity(alloc, names.len() + 1)?;
+    let mut number = 0;
+    for name in names {
+        let Some(child) = child_of(slots, number, name) else {
+            return Ok(Vec::new(alloc));
+        };
+        opened.push((number, child_count(slots, number)))?;
+        number = child;
+    }
+    opened.push((number, 0))?;
+    Ok(opened)
+}
+
+/// Returns the paths of the objects that are left of a walk, in order. If the answer is Ok, the walk is then at its
+/// end.
+pub(crate) fn paths_left(alloc: Global, walk: &mut Walk<'_>) -> Result<Vec<TreePath>, AllocError>
+    requires { list_all (λ e. has_names e.0) walk.old ≡ true }
+    ensures { IfOk result (λ paths. paths.items ≡ map (λ e. e.0) walk.old) }
+{
+    let mut paths = Vec::new(alloc);
+    while let Some(entry) = walk.place() {
+        paths.push(TreePath::of(alloc, entry.names)?)?;
+        walk.advance()?;
+    }
+    Ok(paths)
 }
 
 /// Returns the child of a slot at an index in the order of the names, if there is one.
