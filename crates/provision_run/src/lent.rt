@@ -53,6 +53,10 @@ impl<'a, T: Tree> Tree for Lent<'a, T> {
         self.tree.list(alloc, path)
     }
 
+    fn at_and_below(&self, alloc: Global, path: &TreePath) -> Result<Vec<TreePath>, AllocError> {
+        self.tree.at_and_below(alloc, path)
+    }
+
     fn bytes(&self, path: &TreePath) -> &[u8] {
         self.tree.bytes(path)
     }

@@ -153,6 +153,10 @@ impl<'a, H: Host> Tree for FolderTree<'a, H> {
         self.tree.names_at(alloc, path)
     }
 
+    fn at_and_below(&self, alloc: Global, path: &TreePath) -> Result<Vec<TreePath>, AllocError> {
+        self.tree.at_and_below(alloc, path)
+    }
+
     fn bytes(&self, path: &TreePath) -> &[u8] {
         self.tree.bytes(path)
     }
