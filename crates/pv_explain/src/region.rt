@@ -14,7 +14,6 @@ use pv_lines::Line;
 use pv_path::{TreePath, is_prefix};
 use pv_steps::Tree;
 use pv_table::{Action, Table, action_of, path_of};
-use pv_walk::at_and_below;
 use std::alloc::{AllocError, Global};
 
 /// What a line copies, and where to.
@@ -157,7 +156,7 @@ fn add_below<T: Tree>(
         ++ flat_map (λ top. filter (is_prefix top) (fin.keys (T.state tree.now))) tops.now) }
 {
     for top in tops {
-        let mut more = at_and_below(alloc, tree, top)?;
+        let mut more = tree.at_and_below(alloc, top)?;
         paths.append(&mut more)?;
     }
     Ok(())

@@ -12,7 +12,7 @@ use pv_lines::Line;
 use pv_path::TreePath;
 use pv_steps::{Tree, Why};
 use pv_table::{Taking, named_paths, standing_at, taking_of};
-use pv_walk::{at_and_below, below, refusal_of};
+use pv_walk::{below, refusal_of};
 use std::alloc::{AllocError, Global};
 
 /// Returns the present paths that some line covers, in no order.
@@ -102,7 +102,7 @@ fn taken_paths<T: Tree>(
 {
     match taking {
         Taking::Itself => standing_at(alloc, tree, path),
-        Taking::Whole => at_and_below(alloc, tree, path),
+        Taking::Whole => tree.at_and_below(alloc, path),
         Taking::Contents => below(alloc, tree, path),
         Taking::Nothing => Ok(Vec::new(alloc)),
     }

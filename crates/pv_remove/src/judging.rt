@@ -16,20 +16,19 @@ use pv_path::{TreePath, print_path};
 use pv_steps::{Kind, Tree, is_directory, kind_at};
 use pv_table::{Taking, named_paths, path_of, say_left, say_refused, taking_of};
 use pv_text::{Messages, Place};
-use pv_walk::is_among;
+use pv_walk::PathSet;
 use std::alloc::{AllocError, Global};
-use std::collections::BTreeSet;
 
 /// Adds the messages of the phase in listing order, and returns whether something is left unfinished.
 pub(crate) fn judge<T: Tree>(
     alloc: Global,
     tree: &T,
     lines: &[Line],
-    gone: &BTreeSet<TreePath>,
+    gone: &PathSet,
     new_messages: &mut Messages,
 ) -> Result<bool, AllocError>
     requires lines { AllByRecursion IsLine lines.now }
-    requires gone { (q : Path) → is_one_of gone.now.keys q ≡ is_gone lines.now (T.state tree.now) q }
+    requires gone { (q : Path) → is_one_of gone.now q ≡ is_gone lines.now (T.state tree.now) q }
     ensures new_messages { OnOk result (new_messages.new ≡ new_messages.old ++ removed_messages lines.now (T.state tree.now)) }
     ensures unfinished { IfOk result (λ unfinished. unfinished ≡ is_unfinished lines.now (T.state tree.now)) }
 {
@@ -45,14 +44,14 @@ fn judge_line<T: Tree>(
     alloc: Global,
     tree: &T,
     line: &Line,
-    gone: &BTreeSet<TreePath>,
+    gone: &PathSet,
     new_messages: &mut Messages,
 ) -> Result<bool, AllocError>
     requires line { IsLine line.now }
-    ensures new_messages { (lines : List LineValue) → ((q : Path) → is_one_of gone.now.keys q ≡ is_gone lines (T.state tree.now) q)
+    ensures new_messages { (lines : List LineValue) → ((q : Path) → is_one_of gone.now q ≡ is_gone lines (T.state tree.now) q)
         → OnOk result (new_messages.new ≡ new_messages.old ++ map (message_text_at line.now.place)
         (flat_map (removal_texts lines line.now (T.state tree.now)) (judged line.now (T.state tree.now)))) }
-    ensures unfinished { (lines : List LineValue) → ((q : Path) → is_one_of gone.now.keys q ≡ is_gone lines (T.state tree.now) q)
+    ensures unfinished { (lines : List LineValue) → ((q : Path) → is_one_of gone.now q ≡ is_gone lines (T.state tree.now) q)
         → IfOk result (λ unfinished. unfinished ≡ list_any (λ path. is_some (refused_place line.now (places (T.state tree.now)) path)
         || keeps lines line.now (T.state tree.now) path) (judged line.now (T.state tree.now))) }
 {
@@ -91,13 +90,13 @@ fn judge_path<T: Tree>(
     tree: &T,
     line: &Line,
     path: &TreePath,
-    gone: &BTreeSet<TreePath>,
+    gone: &PathSet,
     new_messages: &mut Messages,
 ) -> Result<bool, AllocError>
     requires { length path.now < 2 ^ 32 }
-    ensures new_messages { (lines : List LineValue) → ((q : Path) → is_one_of gone.now.keys q ≡ is_gone lines (T.state tree.now) q)
+    ensures new_messages { (lines : List LineValue) → ((q : Path) → is_one_of gone.now q ≡ is_gone lines (T.state tree.now) q)
         → OnOk result (new_messages.new ≡ new_messages.old ++ map (message_text_at line.now.place) (removal_texts lines line.now (T.state tree.now) path.now)) }
-    ensures unfinished { (lines : List LineValue) → ((q : Path) → is_one_of gone.now.keys q ≡ is_gone lines (T.state tree.now) q)
+    ensures unfinished { (lines : List LineValue) → ((q : Path) → is_one_of gone.now q ≡ is_gone lines (T.state tree.now) q)
         → IfOk result (λ unfinished. unfinished ≡ (is_some (refused_place line.now (places (T.state tree.now)) path.now)
         || keeps lines line.now (T.state tree.now) path.now)) }
 {
@@ -117,12 +116,12 @@ fn judge_unrefused<T: Tree>(
     tree: &T,
     line: &Line,
     path: &TreePath,
-    gone: &BTreeSet<TreePath>,
+    gone: &PathSet,
     new_messages: &mut Messages,
 ) -> Result<bool, AllocError>
-    ensures new_messages { (lines : List LineValue) → ((q : Path) → is_one_of gone.now.keys q ≡ is_gone lines (T.state tree.now) q)
+    ensures new_messages { (lines : List LineValue) → ((q : Path) → is_one_of gone.now q ≡ is_gone lines (T.state tree.now) q)
         → OnOk result (new_messages.new ≡ new_messages.old ++ map (message_text_at line.now.place) (unrefused_texts lines line.now (T.state tree.now) path.now)) }
-    ensures unfinished { (lines : List LineValue) → ((q : Path) → is_one_of gone.now.keys q ≡ is_gone lines (T.state tree.now) q)
+    ensures unfinished { (lines : List LineValue) → ((q : Path) → is_one_of gone.now q ≡ is_gone lines (T.state tree.now) q)
         → IfOk result (λ unfinished. unfinished ≡ keeps lines line.now (T.state tree.now) path.now) }
 {
     match taking_of(line) {
@@ -141,15 +140,15 @@ fn say_kept<T: Tree>(
     tree: &T,
     place: &Place,
     path: &TreePath,
-    gone: &BTreeSet<TreePath>,
+    gone: &PathSet,
     new_messages: &mut Messages,
 ) -> Result<bool, AllocError>
     ensures new_messages { OnOk result (new_messages.new ≡ new_messages.old ++ map (message_text_at place.now)
-        (if is_directory_at (places (T.state tree.now)) path.now && not (is_one_of gone.now.keys path.now) then not_empty path.now ∷ [] else [])) }
+        (if is_directory_at (places (T.state tree.now)) path.now && not (is_one_of gone.now path.now) then not_empty path.now ∷ [] else [])) }
     ensures kept { IfOk result (λ kept. kept
-        ≡ (is_directory_at (places (T.state tree.now)) path.now && not (is_one_of gone.now.keys path.now))) }
+        ≡ (is_directory_at (places (T.state tree.now)) path.now && not (is_one_of gone.now path.now))) }
 {
-    if !is_directory(tree, path) || is_among(gone, path) {
+    if !is_directory(tree, path) || gone.contains(path) {
         return Ok(false);
     }
     new_messages.push_at(place, &not_empty(alloc, path)?)?;

@@ -6,17 +6,16 @@ ghost use Rattle.pv_walk.specs.Whole.{goes_whole};
 ghost use Rattle.pv_remove.specs.Ended.{TakesAway};
 
 use crate::taking_away::take_away;
-use pv_path::TreePath;
 use pv_steps::{Carried, Tree, TreeFault};
 use pv_text::{Messages, say_all};
+use pv_walk::PathSet;
 use std::alloc::Global;
-use std::collections::BTreeSet;
 
 /// What a phase is to remove, and its messages. All of it is decided from the tree as it is before the phase.
 #[derive(Drop)]
 pub(crate) struct Plan {
     /// The paths that go. With each of them goes everything below it.
-    pub(crate) paths: BTreeSet<TreePath>,
+    pub(crate) paths: PathSet,
     /// The messages that are added after the steps.
     pub(crate) new_messages: Messages,
     /// Whether something is left unfinished.
@@ -31,8 +30,8 @@ pub(crate) fn apply_plan<T: Tree>(
     now: u64,
     messages: &mut Messages,
 ) -> Result<Carried, TreeFault>
-    requires whole { (q : Path) → is_one_of plan.paths.keys q ≡ goes_whole (is_one_of plan.paths.keys) (T.state tree.old) q }
-    ensures { TakesAway T.Tree (is_one_of plan.paths.keys) plan.new_messages plan.unfinished now tree.old tree.new
+    requires whole { (q : Path) → is_one_of plan.paths q ≡ goes_whole (is_one_of plan.paths) (T.state tree.old) q }
+    ensures { TakesAway T.Tree (is_one_of plan.paths) plan.new_messages plan.unfinished now tree.old tree.new
         messages.old messages.new result }
 {
     let Plan {

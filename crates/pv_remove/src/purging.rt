@@ -18,7 +18,7 @@ use pv_path::TreePath;
 use pv_steps::{Carried, Tree, TreeFault, Why, is_present};
 use pv_table::{Table, path_of, say_refused};
 use pv_text::Messages;
-use pv_walk::{at_and_below, whole_of};
+use pv_walk::whole_of;
 use std::alloc::{AllocError, Global};
 
 /// Removes the paths of lines with `$`, each with everything below it (systemd-tmpfiles(8), `--purge`).
@@ -60,7 +60,7 @@ pub fn purge_run<T: Tree>(
 
 /// Plans the phase: which paths the lines with `$` remove, and the messages.
 fn purge_plan<T: Tree>(alloc: Global, tree: &T, table: &Table) -> Result<Plan, AllocError>
-    ensures gone { IfOk result (λ plan. (q : Path) → is_one_of plan.paths.keys q ≡ is_purged table.now (T.state tree.now) q) }
+    ensures gone { IfOk result (λ plan. (q : Path) → is_one_of plan.paths q ≡ is_purged table.now (T.state tree.now) q) }
     ensures new_messages { IfOk result (λ plan. plan.new_messages ≡ purged_messages table.now (T.state tree.now)) }
     ensures unfinished { IfOk result (λ plan. plan.unfinished ≡ is_purge_unfinished table.now (T.state tree.now)) }
     ensures tree { IsTree (T.state tree.now) }
@@ -107,7 +107,7 @@ fn paths_of<T: Tree>(alloc: Global, tree: &T, line: &Line) -> Result<Vec<TreePat
     let path = path_of(alloc, line)?;
     match refusal(alloc, tree, line, &path)? {
         Some(_) => Ok(Vec::new(alloc)),
-        None => at_and_below(alloc, tree, &path),
+        None => tree.at_and_below(alloc, &path),
     }
 }
 

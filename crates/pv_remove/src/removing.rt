@@ -61,7 +61,7 @@ pub fn remove_run<T: Tree>(
 
 /// Plans the phase: which paths the lines r, R and D remove, and the messages.
 fn removal_plan<T: Tree>(alloc: Global, tree: &T, table: &Table) -> Result<Plan, AllocError>
-    ensures gone { IfOk result (λ plan. (q : Path) → is_one_of plan.paths.keys q ≡ is_gone table.now (T.state tree.now) q) }
+    ensures gone { IfOk result (λ plan. (q : Path) → is_one_of plan.paths q ≡ is_gone table.now (T.state tree.now) q) }
     ensures new_messages { IfOk result (λ plan. plan.new_messages ≡ removed_messages table.now (T.state tree.now)) }
     ensures unfinished { IfOk result (λ plan. plan.unfinished ≡ is_unfinished table.now (T.state tree.now)) }
     ensures tree { IsTree (T.state tree.now) }

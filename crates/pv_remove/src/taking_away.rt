@@ -10,26 +10,24 @@ ghost use Rattle.pv_walk.specs.Whole.{count_of, goes_whole};
 ghost use Rattle.pv_table.specs.Removed.{files_without};
 ghost use Rattle.pv_remove.specs.Ended.{TakesInOrder};
 
-use pv_path::TreePath;
 use pv_steps::{Tree, TreeFault};
-use pv_walk::{deepest_last, remove_all};
+use pv_walk::{PathSet, deepest_last, remove_all};
 use std::alloc::Global;
-use std::collections::BTreeSet;
 
 /// Removes these paths, the deepest first and those of one depth in byte order. Everything below a removed path is
 /// removed too. A directory that stays and lost a child gets new timestamps.
 pub(crate) fn take_away<T: Tree>(
     alloc: Global,
     tree: &mut T,
-    paths: BTreeSet<TreePath>,
+    paths: PathSet,
     now: u64,
 ) -> Result<(), TreeFault>
-    requires whole { (q : Path) → is_one_of paths.keys q ≡ goes_whole (is_one_of paths.keys) (T.state tree.old) q }
-    ensures gone { OnOk result (T.state tree.new ≡ files_without (is_one_of paths.keys) (modified now) (T.state tree.old)) }
-    ensures acted { Acted T.Tree (Pruned (is_one_of paths.keys) (T.state tree.old)) (Removes (is_one_of paths.keys))
-        (count_of (is_one_of paths.keys) (T.state tree.old)) now tree.old tree.new result }
-    ensures order { TakesInOrder (is_one_of paths.keys) (T.state tree.old) (T.steps tree.old) (T.steps tree.new) }
+    requires whole { (q : Path) → is_one_of paths q ≡ goes_whole (is_one_of paths) (T.state tree.old) q }
+    ensures gone { OnOk result (T.state tree.new ≡ files_without (is_one_of paths) (modified now) (T.state tree.old)) }
+    ensures acted { Acted T.Tree (Pruned (is_one_of paths) (T.state tree.old)) (Removes (is_one_of paths))
+        (count_of (is_one_of paths) (T.state tree.old)) now tree.old tree.new result }
+    ensures order { TakesInOrder (is_one_of paths) (T.state tree.old) (T.steps tree.old) (T.steps tree.new) }
 {
-    let ordered = deepest_last(alloc, paths)?;
+    let ordered = deepest_last(paths)?;
     remove_all(alloc, tree, ordered, now)
 }

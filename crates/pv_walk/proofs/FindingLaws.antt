@@ -17,8 +17,8 @@ use Rattle.std.proofs.lemmas.Map.Lookups.{btree_set_from_contains}
 use Rattle.std.proofs.lemmas.Map.Views.{any-filter_same, list_any-from_Contains, Contains-from_any}
 use Rattle.std.proofs.Math.Bool.{and_comm, and-false, and-true, or-false}
 use Rattle.pv_path.specs.Names.{is_staging}
-use Rattle.pv_path.specs.Paths.{Path, path_cmp, path_total, same_path, same_path-decides, is_prefix, has_staging, parent_of}
-use Rattle.pv_path.proofs.PathLaws.{path_cmp-refl, path_cmp-exact, name_cmp-refl, name_cmp-exact, is_prefix-refl, path_ends, parent_of-push, has_staging-append, tied-same}
+use Rattle.pv_path.specs.Paths.{Path, path_cmp, path_total, same_path, same_path-decides, has_staging, parent_of}
+use Rattle.pv_path.proofs.PathLaws.{path_cmp-refl, path_cmp-exact, name_cmp-refl, name_cmp-exact, path_ends, parent_of-push, has_staging-append, tied-same}
 use Rattle.pv_glob.specs.declared.element.Element.{Element}
 use Rattle.pv_glob.specs.Matching.{matches, some_matches, component_matches}
 use Rattle.pv_glob.proofs.MatchingLaws.{literal_alone}
@@ -50,6 +50,9 @@ keys_rise [] h = tt
 keys_rise (e ∷ es) h =
     let parts = each_T (below_all path_cmp e.0 es) (is_sorted path_cmp es) h in
     (above_all e.0 es parts.0, keys_rise es parts.1)
+
+pub keys_in_order : (files : Files) → IsStrictlySortedBy path_cmp (fin.keys files)
+keys_in_order files = keys_rise (fin.entries files) (fin.entries_sorted files)
 
 -- ---- members
 
@@ -86,7 +89,7 @@ pub in_order_is : (files : Files) (f : Path → Bool) (paths : List Path) → Is
     → ((q : Path) → is_one_of paths q ≡ (is_some (places files q) && f q)) → paths ≡ filter f (fin.keys files)
 in_order_is files f paths rises members =
     btree_set_from_contains path_total (record { keys = paths }) (record { keys = filter f (fin.keys files) }) rises
-    (IsStrictlySortedBy-filter path_cmp f (fin.keys files) (keys_rise (fin.entries files) (fin.entries_sorted files)))
+    (IsStrictlySortedBy-filter path_cmp f (fin.keys files) (keys_in_order files))
     (λ q.
     one_of-tied paths q ∙ members q ∙ and_comm (is_some (places files q)) (f q)
     ∙ ap (λ b. f q && b) (fin.contains_key-keys files q)
@@ -371,40 +374,6 @@ pub listed_are : (files : Files) (path : Path) (listed : List Path) → IsListin
 listed_are files path listed l q = same_tests (is_one_of listed q) (stands_below files path q)
     (λ h. cond-true (stands_below files path q) (let some = one_of-some listed q h in omega (arith, some, l.once q)))
     (λ h. one_of-counted listed q (let one : cond {A = ℕ} (stands_below files path q) 1 0 ≡ 1 = ap (λ b. cond b 1 0) h in omega (arith, one, l.once q)))
-
--- together with the path itself it has what is at and below
-pub at_and_below_are : (files : Files) (path : Path) (listed paths : List Path) → IsListing files path listed → paths ≡ listed ++ cond (is_some (places files path)) (path ∷ []) []
-    → (q : Path) → is_one_of paths q ≡ (is_some (places files q) && is_prefix path q)
-at_and_below_are files path listed paths l is q =
-    ap (λ (xs : List Path). is_one_of xs q) is ∙ list_any-append (λ r. same_path r q) listed (cond (is_some (places files path)) (path ∷ []) [])
-    ∙ ap (λ b. b || is_one_of (cond (is_some (places files path)) (path ∷ []) []) q) (listed_are files path listed l q)
-    ∙ ap (λ b. stands_below files path q || b) (standing_is files path q)
-    ∙ by (is_prefix path q) (same_path path q) (is_some (places files q)) (λ e. ap (is_prefix path) (sym ((same_path-decides path q).0 e)) ∙ is_prefix-refl path)
-  where
-    by : (p s t : Bool) → (s ≡ true → p ≡ true) → (((p && not s) && t) || (t && s)) ≡ (t && p)
-    by true true true f = refl
-    by true true false f = refl
-    by true false true f = refl
-    by true false false f = refl
-    by false true t f = absurd (let wrong : false ≡ true = f refl in cc)
-    by false false true f = refl
-    by false false false f = refl
-
-or_turned : (a b : Bool) → (a || b) ≡ (b || a)
-or_turned true true = refl
-or_turned true false = refl
-or_turned false true = refl
-or_turned false false = refl
-
--- so has the path followed by what is listed, in any order
-pub path_and_below_are : (files : Files) (path : Path) (listed ordered paths : List Path) → IsListing files path listed → ((q : Path) → is_one_of ordered q ≡ is_one_of listed q)
-    → paths ≡ cond (is_some (places files path)) (path ∷ []) [] ++ ordered → (q : Path) → is_one_of paths q ≡ (is_some (places files q) && is_prefix path q)
-path_and_below_are files path listed ordered paths l same is q =
-    ap (λ (xs : List Path). is_one_of xs q) is ∙ list_any-append (λ r. same_path r q) (cond (is_some (places files path)) (path ∷ []) []) ordered
-    ∙ ap (λ b. is_one_of (cond (is_some (places files path)) (path ∷ []) []) q || b) (same q)
-    ∙ or_turned (is_one_of (cond (is_some (places files path)) (path ∷ []) []) q) (is_one_of listed q)
-    ∙ sym (list_any-append (λ r. same_path r q) listed (cond (is_some (places files path)) (path ∷ []) []))
-    ∙ at_and_below_are files path listed (listed ++ cond (is_some (places files path)) (path ∷ []) []) l refl q
 
 -- the paths of a tree that pass a test
 pub keys_passing : (files : Files) (f : Path → Bool) (q : Path) → is_one_of (filter f (fin.keys files)) q ≡ (is_some (places files q) && f q)

@@ -40,4 +40,5 @@ pub mod NewLaws
 pub mod PreparedLaws
 pub mod FindingLaws
 pub mod WholeLaws
+pub mod PathSetLaws
 pub mod OrderLaws

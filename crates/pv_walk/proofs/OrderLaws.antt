@@ -12,13 +12,15 @@ use Rattle.std.specs.declared.cmp.Ordering.{Ordering}
 use Rattle.std.specs.declared.cmp.Ordering.TheVariants.{Less, Equal, Greater}
 use Rattle.pv_path.specs.Paths.{Path, path_cmp, path_total}
 use Rattle.pv_path.proofs.Tests.{all_append}
+use Rattle.pv_walk.specs.Listing.{times}
 use Rattle.pv_walk.specs.Whole.{depth_cmp, AreDeepestFirst}
+use Rattle.pv_walk.proofs.CountLaws.{times-push}
 use Rattle.pv_walk.proofs.WholeLaws.{deepening, Deepening, length_behind}
 
 -- ---- from the last on
 
 -- the first of a list is the last of it from the last on
-reverse-cons : {A : Type 0} (x : A) (xs : List A) → reverse (x ∷ xs) ≡ reverse xs ++ x ∷ []
+pub reverse-cons : {A : Type 0} (x : A) (xs : List A) → reverse (x ∷ xs) ≡ reverse xs ++ x ∷ []
 reverse-cons x xs = reverse-append (x ∷ []) xs
 
 all-reverse : {A : Type 0} (P : A → Type 0) (xs : List A) → AllByRecursion P xs → AllByRecursion P (reverse xs)
@@ -27,10 +29,18 @@ all-reverse P (x ∷ xs) all = subst (AllByRecursion P) (sym (reverse-cons x xs)
 
 module _ {K : Type 0} (c : K → K → Ordering) where
   -- one more at the end
-  sorted-push : (xs : List K) (x : K) → IsStrictlySortedBy c xs → AllByRecursion (λ y. c y x ≡ Less) xs → IsStrictlySortedBy c (xs ++ x ∷ [])
+  pub sorted-push : (xs : List K) (x : K) → IsStrictlySortedBy c xs → AllByRecursion (λ y. c y x ≡ Less) xs → IsStrictlySortedBy c (xs ++ x ∷ [])
   unfolding IsStrictlySortedBy
   sorted-push [] x up all = (tt, tt)
   sorted-push (y ∷ xs) x up all = (all_append (λ z. c y z ≡ Less) xs (x ∷ []) up.0 (all.0, tt), sorted-push xs x up.1 all.1)
+
+-- a list in reverse has each path as often
+pub times-reverse : (q : Path) (xs : List Path) → times q (reverse xs) ≡ times q xs
+times-reverse q [] = refl
+times-reverse q (x ∷ xs) =
+    let pushed = ap (times q) (reverse-cons x xs) ∙ times-push q (reverse xs) x in
+    let rest = times-reverse q xs in
+    omega (arith, pushed, rest)
 
 -- in order the other way round
 pub sorted-reverse : {K : Type 0} (c : K → K → Ordering) (xs : List K) → IsStrictlySortedBy c xs → IsStrictlySortedBy (λ x y. c y x) (reverse xs)

@@ -27,7 +27,7 @@ use Rattle.pv_walk.proofs.CountLaws.{child_parts}
 use Rattle.pv_walk.proofs.RemovalLaws.{cond-true}
 use Rattle.pv_walk.proofs.TakingLaws.{one_of-none}
 use Rattle.pv_walk.specs.Whole.{goes_whole, all_at}
-use Rattle.pv_walk.proofs.FindingLaws.{no_child, one_of-tied, same_tied}
+use Rattle.pv_walk.proofs.FindingLaws.{no_child}
 use Rattle.pv_path.proofs.Tests.{equal_of, same_tests}
 
 -- ---- members of lists
@@ -286,7 +286,7 @@ abbrev pub Deepening : List Path → Type 0
 Deepening [] = Unit {0}
 Deepening (p ∷ ps) = ((q : Path) → 1 ≤ times q ps → length p ≤ length q) × Deepening ps
 
-place_in : (q : Path) (ps : List Path) → 1 ≤ times q ps → (k : ℕ) × (k < length ps) × ((d : Path) → get_or ps k d ≡ q)
+pub place_in : (q : Path) (ps : List Path) → 1 ≤ times q ps → (k : ℕ) × (k < length ps) × ((d : Path) → get_or ps k d ≡ q)
 place_in q [] some = absurd (omega arith)
 place_in q (p ∷ ps) some = by (same_path p q) refl (place_in q ps)
   where
@@ -363,15 +363,6 @@ whole_removable test files keys ordered rises members moved deep = record {
         (each-all_at test files q (λ r at below. all_at-each test files p all r at (is_prefix-trans p q r under below))) in
         omega (arith, counted q, ap (λ b. cond {A = ℕ} b 1 0) whole)
 
--- a set without paths
-pub emptied : (q : Path) (keys : List Path) → (0 < length keys → ⊥) → times q keys ≡ 0
-emptied q [] none = refl
-emptied q (k ∷ keys) none = absurd (none (omega arith))
-
-pub empty : (keys : List Path) → (0 < length keys → ⊥) → keys ≡ []
-empty [] none = refl
-empty (k ∷ keys) none = absurd (none (omega arith))
-
 -- what was decided to go is present
 pub decided_present : (paths : List Path) (files : Files) (front whole : List Path) → Deciding paths files front whole → (q : Path) → is_one_of whole q ≡ true → is_some (places files q) ≡ true
 decided_present paths files front whole d q h =
@@ -415,13 +406,12 @@ child_has P path q None e h = tt
 child_has P path q (Some s) e h = subst P (child_name-Some path q s.now (sym e)) h
 
 -- one path more in a set, where all its children are in the set
-pub inserted : (old new : List Path) (path q : Path) (all : Bool) → list_any (eq_by_cmp path_cmp q) new ≡ cond (is_eq (path_cmp path q)) true (list_any (eq_by_cmp path_cmp q) old)
+pub inserted : (old new : List Path) (path q : Path) (all : Bool) → new ≡ path ∷ old
     → all ≡ true → (path ≡ [] → ⊥) → is_one_of new q ≡ (is_one_of old q || (same_path path q && (not (length path == 0) && all)))
-inserted old new path q all updates is below_root =
-    sym (one_of-tied new q) ∙ updates ∙ ap (λ b. cond (is_eq (path_cmp path q)) true b) (one_of-tied old q)
-    ∙ ap (λ b. cond b true (is_one_of old q)) (sym (same_tied path q))
+inserted old new path q all is passes below_root =
+    ap (λ (xs : List Path). is_one_of xs q) is
     ∙ by (same_path path q) (is_one_of old q)
-    ∙ ap (λ b. is_one_of old q || (same_path path q && b)) (sym (and_from (not (length path == 0)) all (ap not (no_root path below_root)) is))
+    ∙ ap (λ b. is_one_of old q || (same_path path q && b)) (sym (and_from (not (length path == 0)) all (ap not (no_root path below_root)) passes))
   where
     no_root : (p : Path) → (p ≡ [] → ⊥) → (length p == 0) ≡ false
     no_root [] h = absurd (h refl)
@@ -430,8 +420,22 @@ inserted old new path q all updates is below_root =
         more : (k : ℕ) → (suc k == 0) ≡ false
         more k = grind (arith, nat_tests)
 
-    by : (s o : Bool) → cond s true o ≡ (o || (s && true))
+    by : (s o : Bool) → (s || o) ≡ (o || (s && true))
     by true true = refl
     by true false = refl
     by false true = refl
     by false false = refl
+
+-- ---- what was decided comes after what is left
+
+all_behind : (front : List Path) (p : Path) (back : List Path) → IsStrictlySortedBy path_cmp (front ++ p ∷ back) → AllByRecursion (λ q. path_cmp p q ≡ Less) back
+unfolding IsStrictlySortedBy
+all_behind [] p back rises = rises.0
+all_behind (x ∷ front) p back rises = all_behind front p back rises.1
+
+pub decided_after : (paths : List Path) (files : Files) (front whole : List Path) (p : Path) → IsStrictlySortedBy path_cmp paths → Deciding paths files (front ++ p ∷ []) whole
+    → (q : Path) → is_one_of whole q ≡ true → path_cmp p q ≡ Less
+decided_after paths files front whole p rises d q h =
+    let split : front ++ p ∷ d.back ≡ paths = sym (append_assoc front (p ∷ []) d.back) ∙ d.all in
+    all_less path_cmp p d.back (all_behind front p d.back (subst (IsStrictlySortedBy path_cmp) (sym split) rises)) q
+    (and_parts (is_one_of d.back q) (goes_whole (is_one_of paths) files q) (sym (d.decided q) ∙ h)).0

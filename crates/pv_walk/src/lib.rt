@@ -14,7 +14,6 @@
 mod copying;
 mod known_child;
 mod laws;
-mod listed_below;
 mod listing;
 mod mask;
 mod matching;
@@ -22,6 +21,7 @@ mod new_file;
 mod object_state;
 mod operation;
 mod order;
+mod path_set;
 mod preparing;
 mod publishing;
 mod put;
@@ -29,6 +29,7 @@ mod remove;
 mod run;
 mod setting_metadata;
 mod stage;
+mod standing;
 mod subtree;
 mod sweeping;
 mod walking;
@@ -41,7 +42,6 @@ pub use laws::{
     an_erasure_without_a_make_leaves_nothing, first_operations_are_absorbed,
     objects_are_compared_without_stamps, operations_do_the_same_in_parts,
 };
-pub use listed_below::{add_standing, at_and_below};
 pub use listing::{object_state_at, topped};
 pub use mask::{masked_special, set_masked_base};
 pub use matching::matching_paths;
@@ -49,6 +49,7 @@ pub use new_file::{NewFile, NewKind, new_object_state};
 pub use object_state::{Body, Metadata, ObjectState};
 pub use operation::{Change, Guard, Operation, Test};
 pub use order::in_order;
+pub use path_set::{PathSet, is_among};
 pub use preparing::prepare;
 pub use publishing::publish;
 pub use put::{put_over, stage_file};
@@ -57,6 +58,7 @@ pub use remove::{below, removal, remove_all, remove_below};
 pub use run::{admits, run_operations, stays};
 pub use setting_metadata::{is_same_base, set_metadata};
 pub use stage::put_held;
+pub use standing::add_standing;
 pub use sweeping::sweep;
 pub use walking::{Walked, refusal_of, unsafe_component, walk};
-pub use whole_subtrees::{deepest_last, is_among, whole_of};
+pub use whole_subtrees::{deepest_last, whole_of};

@@ -39,7 +39,8 @@ fn push_children<T: Tree>(
 
 /// Returns the paths of everything below a path, each once, and each directory before what is in it.
 ///
-/// Everything below a listed directory follows it directly. The path itself is not in the list. The only error is
+/// Everything below a listed directory follows it directly. Read from its end, the list has the children of a directory
+/// in byte order, and each directory after its children. The path itself is not in the list. The only error is
 /// `AllocError`.
 pub fn below<T: Tree>(alloc: Global, tree: &T, path: &TreePath) -> Result<Vec<TreePath>, AllocError>
     ensures all { IfOk result (λ paths. IsListing (T.state tree.now) path.now paths.items) }

@@ -1,8 +1,8 @@
 //! Which of some paths can be removed, each with everything below it.
 ghost use Rattle.std.specs.Prelude.{◌≡◌, ◌||◌, ◌&&◌, ◌==◌, not, [], ◌∷◌, ◌++◌, ℕ, length, reverse, true, is_some, IfOk, IfSome, OnOk};
 ghost use Rattle.std.specs.List.{list_all};
-ghost use Rattle.std.specs.BTreeSet.{IsOrdered};
-ghost use Rattle.std.specs.List.Sorted.{IsNonDecreasingBy};
+ghost use Rattle.std.specs.List.Sorted.{IsNonDecreasingBy, IsStrictlySortedBy};
+ghost use Rattle.std.specs.declared.cmp.Ordering.TheVariants.{Less};
 ghost use Rattle.pv_path.specs.Paths.{Path, path_cmp, same_path};
 ghost use Rattle.pv_steps.specs.Trees.{places, names_below, IsTree};
 ghost use Rattle.pv_walk.specs.Listing.{times};
@@ -11,10 +11,10 @@ ghost use Rattle.pv_walk.specs.Whole.{goes_whole, AreDeepestFirst};
 
 use crate::known_child::{is_directory_with, name_below};
 use crate::order::in_order;
+use crate::path_set::PathSet;
 use pv_path::{Name, TreePath, child};
 use pv_steps::Tree;
 use std::alloc::{AllocError, Global};
-use std::collections::BTreeSet;
 
 /// Returns those of the given paths below which nothing is missing: every object below them is among the given paths
 /// too. The root is left out.
@@ -25,12 +25,12 @@ pub fn whole_of<T: Tree>(
     alloc: Global,
     tree: &T,
     paths: Vec<TreePath>,
-) -> Result<BTreeSet<TreePath>, AllocError>
+) -> Result<PathSet, AllocError>
     requires { (q : Path) → is_one_of paths.items q ≡ true → is_some (places (T.state tree.now) q) ≡ true }
-    ensures { IfOk result (λ whole. (q : Path) → is_one_of whole.keys q ≡ goes_whole (is_one_of paths.items) (T.state tree.now) q) }
+    ensures { IfOk result (λ whole. (q : Path) → is_one_of whole q ≡ goes_whole (is_one_of paths.items) (T.state tree.now) q) }
 {
     let mut left = in_order(paths);
-    let mut whole = BTreeSet::new(alloc);
+    let mut whole = PathSet::new(alloc);
     while let Some(path) = left.pop() {
         add_whole(alloc, tree, path, &mut whole)?;
     }
@@ -38,21 +38,22 @@ pub fn whole_of<T: Tree>(
 }
 
 /// Adds a path other than the root, if everything directly below it was added before. All paths that were added before
-/// must be present.
+/// must be present, and must come after the path in byte order.
 fn add_whole<T: Tree>(
     alloc: Global,
     tree: &T,
     path: TreePath,
-    whole: &mut BTreeSet<TreePath>,
+    whole: &mut PathSet,
 ) -> Result<(), AllocError>
-    requires { (q : Path) → is_one_of whole.old.keys q ≡ true → is_some (places (T.state tree.now) q) ≡ true }
-    ensures added { OnOk result ((q : Path) → is_one_of whole.new.keys q ≡ (is_one_of whole.old.keys q
+    requires present { (q : Path) → is_one_of whole.old q ≡ true → is_some (places (T.state tree.now) q) ≡ true }
+    requires first { (q : Path) → is_one_of whole.old q ≡ true → path_cmp path q ≡ Less }
+    ensures added { OnOk result ((q : Path) → is_one_of whole.new q ≡ (is_one_of whole.old q
         || (same_path path q && (not (length path == 0)
-        && list_all (λ n. is_one_of whole.old.keys (path ++ n ∷ [])) (names_below (T.state tree.now) path))))) }
+        && list_all (λ n. is_one_of whole.old (path ++ n ∷ [])) (names_below (T.state tree.now) path))))) }
     ensures tree { IsTree (T.state tree.now) }
 {
     if has_children_in(alloc, tree, &path, whole)? && !path.is_empty() {
-        whole.insert(path)?;
+        whole.add_first(path)?;
     }
     Ok(())
 }
@@ -62,11 +63,11 @@ fn has_children_in<T: Tree>(
     alloc: Global,
     tree: &T,
     path: &TreePath,
-    whole: &BTreeSet<TreePath>,
+    whole: &PathSet,
 ) -> Result<bool, AllocError>
-    requires { (q : Path) → is_one_of whole.now.keys q ≡ true → is_some (places (T.state tree.now) q) ≡ true }
+    requires { (q : Path) → is_one_of whole.now q ≡ true → is_some (places (T.state tree.now) q) ≡ true }
     ensures all { IfOk result (λ all. all
-        ≡ list_all (λ n. is_one_of whole.now.keys (path.now ++ n ∷ [])) (names_below (T.state tree.now) path.now)) }
+        ≡ list_all (λ n. is_one_of whole.now (path.now ++ n ∷ [])) (names_below (T.state tree.now) path.now)) }
     ensures tree { IsTree (T.state tree.now) }
 {
     let known = first_name(whole, path);
@@ -78,8 +79,8 @@ fn has_children_in<T: Tree>(
 }
 
 /// Returns the name of the first of some paths, if this path is directly below another path.
-fn first_name<'a>(paths: &'a BTreeSet<TreePath>, path: &TreePath) -> Option<&'a Name>
-    ensures { IfSome result (λ name. is_one_of paths.now.keys (path.now ++ name.now ∷ []) ≡ true) }
+fn first_name<'a>(paths: &'a PathSet, path: &TreePath) -> Option<&'a Name>
+    ensures { IfSome result (λ name. is_one_of paths.now (path.now ++ name.now ∷ []) ≡ true) }
 {
     name_below(path, paths.first()?)
 }
@@ -90,10 +91,10 @@ fn are_children_in(
     path: &TreePath,
     names: &[Name],
     known: Option<&Name>,
-    whole: &BTreeSet<TreePath>,
+    whole: &PathSet,
 ) -> Result<bool, AllocError>
-    requires { IfSome known (λ name. is_one_of whole.now.keys (path.now ++ name.now ∷ []) ≡ true) }
-    ensures { IfOk result (λ all. all ≡ list_all (λ n. is_one_of whole.now.keys (path.now ++ n ∷ [])) names.now) }
+    requires { IfSome known (λ name. is_one_of whole.now (path.now ++ name.now ∷ []) ≡ true) }
+    ensures { IfOk result (λ all. all ≡ list_all (λ n. is_one_of whole.now (path.now ++ n ∷ [])) names.now) }
 {
     for name in names {
         if !is_child_in(alloc, path, name, known, whole)? {
@@ -109,38 +110,27 @@ fn is_child_in(
     path: &TreePath,
     name: &Name,
     known: Option<&Name>,
-    whole: &BTreeSet<TreePath>,
+    whole: &PathSet,
 ) -> Result<bool, AllocError>
-    requires { IfSome known (λ name. is_one_of whole.now.keys (path.now ++ name.now ∷ []) ≡ true) }
-    ensures { IfOk result (λ is_in. is_in ≡ is_one_of whole.now.keys (path.now ++ name.now ∷ [])) }
+    requires { IfSome known (λ name. is_one_of whole.now (path.now ++ name.now ∷ []) ≡ true) }
+    ensures { IfOk result (λ is_in. is_in ≡ is_one_of whole.now (path.now ++ name.now ∷ [])) }
 {
     match known {
         Some(first) if first == name => Ok(true),
-        _ => Ok(is_among(whole, &child(alloc, path, name.bytes())?)),
+        _ => Ok(whole.contains(&child(alloc, path, name.bytes())?)),
     }
-}
-
-/// Returns whether a path is in a set of paths.
-pub fn is_among(paths: &BTreeSet<TreePath>, path: &TreePath) -> bool
-    ensures { result ≡ is_one_of paths.now.keys path.now }
-{
-    paths.contains(path)
 }
 
 /// Sorts paths so that they can be removed from the end of the list: the deepest paths come last.
 ///
 /// Read from its end, the list has paths of one depth in byte order. The only error is `AllocError`.
-pub fn deepest_last(alloc: Global, paths: BTreeSet<TreePath>) -> Result<Vec<TreePath>, AllocError>
-    ensures members { IfOk result (λ ordered. (q : Path) → times q ordered.items ≡ times q paths.keys) }
+pub fn deepest_last(paths: PathSet) -> Result<Vec<TreePath>, AllocError>
+    ensures members { IfOk result (λ ordered. (q : Path) → times q ordered.items ≡ times q paths) }
     ensures deepest { IfOk result (λ ordered. IsNonDecreasingBy (λ path. length path) ordered.items) }
     ensures order { IfOk result (λ ordered. AreDeepestFirst (reverse ordered.items)) }
-    ensures once { IsOrdered path_cmp paths }
+    ensures once { IsStrictlySortedBy path_cmp paths }
 {
-    let mut left = paths;
-    let mut ordered = Vec::with_capacity(alloc, left.len())?;
-    while let Some(path) = left.pop_last() {
-        ordered.push(path)?;
-    }
+    let mut ordered = paths.into_last_first();
     ordered.sort_by_key(|path| path.len())?;
     Ok(ordered)
 }

@@ -22,7 +22,7 @@ returns-in-Whole g c =
     let t = g.T.Tree.state c.args.tree.now in
     let path = c.args.path.now in
     if_ok (λ paths. paths.items ≡ filter (is_prefix path) (fin.keys t)) (λ paths. (q : Path) → is_one_of paths.items q ≡ takes c.args.taking t path q) c.at_and_below.result
-    (λ paths e q. ap (λ (xs : List Path). is_one_of xs q) e ∙ keys_passing t (is_prefix path) q ∙ ap (λ (v : Taking). takes v t path q) (sym c.in-Whole.is)) c.at_and_below.ensures
+    (λ paths e q. ap (λ (xs : List Path). is_one_of xs q) e ∙ keys_passing t (is_prefix path) q ∙ ap (λ (v : Taking). takes v t path q) (sym c.in-Whole.is)) c.at_and_below.ensures.paths
 
 pub returns-in-Contents : goal.returns-in-Contents
 returns-in-Contents g c =

@@ -19,7 +19,7 @@ returns g c = record {
   carried = c.of.ensures;
   part = c.say_all.ensures.part;
   silent = λ failed. cc;
-  exact = one_step_each (is_one_of c.args.plan.paths.keys) (modified c.args.now) c.in_ok-take_away.ensures.acted.ran c.in_ok-take_away.ensures.gone;
+  exact = one_step_each (is_one_of c.args.plan.paths) (modified c.args.now) c.in_ok-take_away.ensures.acted.ran c.in_ok-take_away.ensures.gone;
   acted = acted_ended g.T.Tree _ refl c.in_ok-take_away.ensures.acted;
   order = c.take_away.ensures.order;
 }

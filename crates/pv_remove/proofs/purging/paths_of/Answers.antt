@@ -16,7 +16,7 @@ returns g c =
     let path = c.in_ok-path.path in
     if_ok (λ paths. paths.items ≡ filter (is_prefix path) (fin.keys t)) (λ paths. (q : Path) → is_one_of paths.items q ≡ (is_some (places t q) && purges c.args.line.now (places t) q)) c.at_and_below.result
     (λ paths e q. ap (λ (xs : List Path). is_one_of xs q) e ∙ keys_passing t (is_prefix path) q
-    ∙ ap (λ b. is_some (places t q) && b) (purges_is c.args.line.now (places t) path q c.if-not-line.false c.in_ok-path.ensures (sym c.in_ok-refusal.ensures ∙ c.in-None.is))) c.at_and_below.ensures
+    ∙ ap (λ b. is_some (places t q) && b) (purges_is c.args.line.now (places t) path q c.if-not-line.false c.in_ok-path.ensures (sym c.in_ok-refusal.ensures ∙ c.in-None.is))) c.at_and_below.ensures.paths
 
 pub returns-in-Some : goal.returns-in-Some
 returns-in-Some g c q =

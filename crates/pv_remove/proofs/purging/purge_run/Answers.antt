@@ -22,16 +22,16 @@ returns-in_err-plan-clause-recovers g c =
     purge_recovered c.args.table.now (Removes (is_purged c.args.table.now t)) c.args.now t h t h c.ranges.now.fits c.purge_plan.ensures.tree none.acted.ran
 
 pub apply_plan-requires : goal.apply_plan-requires
-apply_plan-requires g c = record { whole = purged_together c.in_ok-plan.plan.paths.keys c.args.table.now (g.T.Tree.state c.args.tree.now) c.in_ok-plan.ensures.gone }
+apply_plan-requires g c = record { whole = purged_together c.in_ok-plan.plan.paths c.args.table.now (g.T.Tree.state c.args.tree.now) c.in_ok-plan.ensures.gone }
 
 pub returns-clause-run : goal.returns-clause-run
 returns-clause-run g c =
-    let same : is_one_of c.in_ok-plan.plan.paths.keys ≡ is_purged c.args.table.now (g.T.Tree.state c.args.tree.now) = λ i q. c.in_ok-plan.ensures.gone q i in
+    let same : is_one_of c.in_ok-plan.plan.paths ≡ is_purged c.args.table.now (g.T.Tree.state c.args.tree.now) = λ i q. c.in_ok-plan.ensures.gone q i in
     takes-same g.T.Tree same c.in_ok-plan.ensures.new_messages c.in_ok-plan.ensures.unfinished c.apply_plan.ensures
 
 pub returns-clause-recovers : goal.returns-clause-recovers
 returns-clause-recovers g c =
     let t = g.T.Tree.state c.args.tree.now in
-    let same : is_one_of c.in_ok-plan.plan.paths.keys ≡ is_purged c.args.table.now t = λ i q. c.in_ok-plan.ensures.gone q i in
+    let same : is_one_of c.in_ok-plan.plan.paths ≡ is_purged c.args.table.now t = λ i q. c.in_ok-plan.ensures.gone q i in
     let took = takes-same g.T.Tree same c.in_ok-plan.ensures.new_messages c.in_ok-plan.ensures.unfinished c.apply_plan.ensures in
     purge_recovered c.args.table.now (Removes (is_purged c.args.table.now t)) c.args.now t (g.T.Tree.steps c.args.tree.now) (g.T.Tree.state c.apply_plan.new.tree) (g.T.Tree.steps c.apply_plan.new.tree) c.ranges.now.fits c.purge_plan.ensures.tree took.acted.ran

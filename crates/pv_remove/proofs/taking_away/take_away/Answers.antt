@@ -13,16 +13,16 @@ use Rattle.pv_path.proofs.Tests.{on_ok}
 
 pub remove_all-requires : goal.remove_all-requires
 remove_all-requires g c =
-    removable (g.T.Tree.state c.args.tree.now) c.args.paths.keys c.in_ok-ordered.ordered.items c.in_ok-ordered.ensures.members c.in_ok-ordered.ensures.once c.requires.whole c.in_ok-ordered.ensures.deepest
+    removable (g.T.Tree.state c.args.tree.now) c.args.paths c.in_ok-ordered.ordered.items c.in_ok-ordered.ensures.members c.in_ok-ordered.ensures.once c.requires.whole c.in_ok-ordered.ensures.deepest
 
 pub returns-clause-gone : goal.returns-clause-gone
 returns-clause-gone g c = on_ok c.remove_all.result
-    (λ e. left_without (g.T.Tree.state c.args.tree.now) c.args.paths.keys c.in_ok-ordered.ordered.items c.in_ok-ordered.ensures.members c.args.now (g.T.Tree.state c.remove_all.new.tree) e) c.remove_all.ensures.gone
+    (λ e. left_without (g.T.Tree.state c.args.tree.now) c.args.paths c.in_ok-ordered.ordered.items c.in_ok-ordered.ensures.members c.args.now (g.T.Tree.state c.remove_all.new.tree) e) c.remove_all.ensures.gone
 
 pub returns-clause-acted : goal.returns-clause-acted
 returns-clause-acted g c =
     let t = g.T.Tree.state c.args.tree.now in
-    let keys = c.args.paths.keys in
+    let keys = c.args.paths in
     let ordered = c.in_ok-ordered.ordered.items in
     acted_within g.T.Tree (length ordered) (count_of (is_one_of keys) t)
     (as_many t keys ordered c.in_ok-ordered.ensures.members c.in_ok-ordered.ensures.once c.requires.whole)
@@ -32,4 +32,4 @@ pub returns-in_err-ordered-clause-order : goal.returns-in_err-ordered-clause-ord
 returns-in_err-ordered-clause-order g c = TakesInOrder.nothing refl
 
 pub returns-clause-order : goal.returns-clause-order
-returns-clause-order g c = in_order (g.T.Tree.state c.args.tree.now) c.args.paths.keys c.in_ok-ordered.ordered.items c.in_ok-ordered.ensures.members c.in_ok-ordered.ensures.order c.remove_all.ensures.order
+returns-clause-order g c = in_order (g.T.Tree.state c.args.tree.now) c.args.paths c.in_ok-ordered.ordered.items c.in_ok-ordered.ensures.members c.in_ok-ordered.ensures.order c.remove_all.ensures.order

@@ -7,5 +7,5 @@ use Rattle.pv_walk.proofs.whole_subtrees.are_children_in.Goals as goal
 pub returns : goal.returns
 returns c =
     sym c.loop-name.invariant
-    ∙ ap (λ (ns : List (List ℕ)). list_all (λ n. is_one_of c.args.whole.now.keys (c.args.path.now ++ n ∷ [])) ns)
+    ∙ ap (λ (ns : List (List ℕ)). list_all (λ n. is_one_of c.args.whole.now (c.args.path.now ++ n ∷ [])) ns)
     (take_all c.loop-name.name-index c.args.names.now c.loop-name-test.false)

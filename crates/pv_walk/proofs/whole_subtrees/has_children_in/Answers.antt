@@ -11,11 +11,11 @@ is_directory_with-requires g c = IfSome_then c.first_name-known.result c.first_n
 
 pub returns-then-not-is_directory_with-clause-all : goal.returns-then-not-is_directory_with-clause-all
 returns-then-not-is_directory_with-clause-all g c =
-    sym (ap (λ (ns : List (List ℕ)). list_all (λ n. is_one_of c.args.whole.now.keys (c.args.path.now ++ n ∷ [])) ns)
+    sym (ap (λ (ns : List (List ℕ)). list_all (λ n. is_one_of c.args.whole.now (c.args.path.now ++ n ∷ [])) ns)
     (no_names (g.T.Tree.state c.args.tree.now) c.is_directory_with.ensures.tree c.args.path.now (λ e. let no : false ≡ true = c.if-not-is_directory_with.ensures.kind.1 e in cc)))
 
 pub returns-clause-all : goal.returns-clause-all
 returns-clause-all g c =
     IfOk-weaker c.are_children_in.result _ _
-    (λ all is. is ∙ ap (λ (ns : List (List ℕ)). list_all (λ n. is_one_of c.args.whole.now.keys (c.args.path.now ++ n ∷ [])) ns) (c.as_slice.ensures ∙ c.in_ok-names.ensures.names))
+    (λ all is. is ∙ ap (λ (ns : List (List ℕ)). list_all (λ n. is_one_of c.args.whole.now (c.args.path.now ++ n ∷ [])) ns) (c.as_slice.ensures ∙ c.in_ok-names.ensures.names))
     c.are_children_in.ensures
