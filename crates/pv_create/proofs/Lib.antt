@@ -8,7 +8,6 @@ pub mod KeptLaws
 pub mod ReachedLaws
 pub mod AskedSets
 pub mod NamedLaws
-pub mod WearingLaws
 pub mod TableLaws
 pub mod CopyTable
 pub mod ActionLaws

@@ -1,19 +1,22 @@
 -- Laws of adjusting the object at each path of a list.
-use Rattle.std.specs.Prelude.{◌≡◌, ◌⊎◌, ℕ, ◌+◌, ◌≤◌, ◌<◌, Bool, true, false, cond, not, ◌&&◌, ◌||◌, List, [], ◌∷◌, ◌++◌, map, filter, fold, sum, length, take, drop, get_or, Option, Some, None, is_some, option_map, Result, Ok, Err, OnOk, if◌then◌else◌}
+use Rattle.std.specs.Prelude.{◌≡◌, ◌⊎◌, ℕ, ◌+◌, ◌≤◌, ◌<◌, Bool, true, false, cond, not, ◌&&◌, ◌||◌, T, List, [], ◌∷◌, ◌++◌, map, filter, fold, sum, length, take, drop, get_or, Option, Some, None, is_some, option_map, Result, Ok, Err, OnOk, if◌then◌else◌}
 use Rattle.std.specs.FinMap as fin
 use Rattle.std.proofs.Common.{refl, sym, ap, subst, ◌∙◌, inl, inr, arith, zero, suc}
 use Rattle.std.proofs.lemmas.List.{get_or-drop, get_or-take, get_or_default, length-drop, length-take-le, take-append-drop, take_all, take_more}
 use Rattle.std.proofs.lemmas.List.Folds.{list_all-append}
 use Rattle.std.proofs.lemmas.List.MinMax.{ranks_by}
-use Rattle.std.proofs.lemmas.List.Sorted.{sorted_far, sum_by-IsPermutation}
+use Rattle.std.proofs.lemmas.List.Kept.{IsSortedBy-filter}
+use Rattle.std.proofs.lemmas.List.Sorted.{sorted_far}
 use Rattle.std.specs.declared.cmp.Ordering.TheVariants.{Less, Equal, Greater}
 use Rattle.std.specs.List.{list_all}
 use Rattle.std.specs.Ordering.{is_lt, ordering_reverse}
-use Rattle.std.specs.Prelude.{IsPermutation, IsSorted}
+use Rattle.std.specs.Cmp.{IsStrictWeakOrder}
+use Rattle.std.specs.FinMap.Entries.{below_all, is_sorted}
+use Rattle.std.specs.Prelude.{IsSorted}
 use Rattle.std.proofs.lemmas.Grind.{fold-append}
 use Rattle.pv_path.specs.Paths.{Path, path_cmp, path_total, same_path, is_prefix, has_staging}
-use Rattle.pv_path.proofs.PathLaws.{path_cmp-refl, same_path-refl}
-use Rattle.pv_path.proofs.Tests.{true_not_false}
+use Rattle.pv_path.proofs.PathLaws.{path_cmp-refl, same_path-refl, is_prefix-refl, has_staging-extends}
+use Rattle.pv_path.proofs.Tests.{true_not_false, less_of-T, each_T}
 use Rattle.pv_steps.specs.declared.object.Object.{Object}
 use Rattle.pv_steps.specs.declared.step.Step.{Step}
 use Rattle.pv_steps.specs.declared.tree.Tree.{Ghosts}
@@ -33,15 +36,14 @@ use Rattle.pv_walk.specs.SettingMetadata.{Lacks, GivesMetadata}
 use Rattle.pv_walk.specs.Nodes.{object_state_of, object_states_of}
 use Rattle.pv_walk.specs.Operations.{run}
 use Rattle.pv_walk.proofs.EditLaws.{path_cases, on_at-else}
-use Rattle.pv_walk.specs.Listing.{times, stands_below, IsListing}
-use Rattle.pv_walk.proofs.CountLaws.{times-append, times-push, times-filter, times-keys, times-self, taken_out, one-same}
+use Rattle.pv_walk.specs.Listing.{times}
+use Rattle.pv_walk.proofs.CountLaws.{times-append, times-push, times-filter, times-keys, times-self, taken_out, same_or_not}
 use Rattle.pv_table.specs.declared.action.Adjustment.{Adjustment}
 use Rattle.pv_table.specs.Created.{change_work, adjust_work}
 use Rattle.pv_table.specs.Effects.{become, is_adjusted, adjust_at}
 use Rattle.pv_create.specs.Adjusting.{Adjusting, GivesBytes, GivesSet}
-use Rattle.pv_create.specs.Reached.{AdjustingInOrder, AdjustingReached, AreReachedBelow, GivesReached, IsPartSet, IsReached}
+use Rattle.pv_create.specs.Reached.{AdjustingInOrder, AdjustingReached, GivesReached, IsPartSet, IsReached}
 use Rattle.pv_create.specs.Sets.{AreSets, AtMostOne, SetsBytes, SetsMode, SetsOther, SetsOwners}
-use Rattle.pv_walk.proofs.WholeLaws.{times-sum}
 use Rattle.pv_laws.proofs.Comparing.{become-object_state}
 use Rattle.pv_laws.proofs.Sets.{adjusted_none, is_adjustment}
 
@@ -112,10 +114,6 @@ sum-push w (z ∷ xs) x =
     let one = sum-cons w z (xs ++ x ∷ []) in
     let two = sum-cons w z xs in
     omega (arith, rest, one, two)
-
--- another order counts the same
-times-permuted : (xs ys : List Path) → IsPermutation xs ys → (q : Path) → times q ys ≡ times q xs
-times-permuted xs ys h q = times-sum q ys ∙ sum_by-IsPermutation (λ p. cond (same_path p q) 1 0) xs ys h ∙ sym (times-sum q xs)
 
 -- ---- the same object
 
@@ -370,48 +368,27 @@ module _ (adjustment : Adjustment) (path : Path) (t : Files) (paths : List Path)
 
 -- ---- the list
 
--- below a path, with it
-reached_with : (adjustment : Adjustment) (path : Path) (t : Files) → IsPresent t path → (paths all : List Path) → AreReachedBelow adjustment path t paths → ((q : Path) → times q all ≡ times q paths + cond (same_path path q) 1 0) → IsReached adjustment path t all
-reached_with adjustment path t present paths all are longer q = longer q ∙ by (same_path path q) refl
+-- the path alone, for a line that reaches nothing below it
+pub reached_alone : (adjustment : Adjustment) (path : Path) (t : Files) → IsPresent t path → (adjustment.deep && not (has_staging path)) ≡ false → IsReached adjustment path t (path ∷ [])
+reached_alone adjustment path t present alone q = by (same_or_not path q)
   where
-    here : same_path path q ≡ true → is_some (places t q) ≡ true
-    here e = ap (λ p. is_some (places t p)) (sym (one-same path q e)) ∙ present
+    none : (d p s b : Bool) → (d && not b) ≡ false → (p ≡ true → b ≡ true → s ≡ true) → (d && p && not s) ≡ false
+    none true true true b e f = refl
+    none true true false true e f = sym (f refl refl)
+    none true true false false e f = e
+    none true false s b e f = refl
+    none false p s b e f = refl
 
-    plain : (p d s b : Bool) → ◌≡◌ {A = ℕ} (cond (d && not s) (cond ((p && not false) && b) 1 0) 0 + 0) (cond ((false || d && p && not s) && b) 1 0)
-    plain true true true b = refl
-    plain true true false true = refl
-    plain true true false false = refl
-    plain true false s b = refl
-    plain false true true b = refl
-    plain false true false b = refl
-    plain false false s b = refl
+    by : ((path ≡ q) × (same_path path q ≡ true)) ⊎ (same_path path q ≡ false) → times q (path ∷ []) ≡ cond (is_adjusted adjustment path q && is_some (places t q)) 1 0
+    by (inl s) =
+        let here : is_some (places t q) ≡ true = ap (λ p. is_some (places t p)) (sym s.0) ∙ present in
+        (λ j. cond (s.1 j) 1 0 + 0) ∙ sym (ap {B = ℕ} (λ b. cond b 1 0) (λ j. (s.1 j || adjustment.deep && is_prefix path q && not (has_staging q)) && here j))
+    by (inr d) =
+        let out = none adjustment.deep (is_prefix path q) (has_staging q) (has_staging path) alone (has_staging-extends path q) in
+        (λ j. cond (d j) 1 0 + 0) ∙ sym (ap {B = ℕ} (λ b. cond b 1 0) (λ j. (d j || out j) && is_some (places t q)))
 
-    same : (p d s : Bool) → ◌≡◌ {A = ℕ} (cond (d && not s) (cond ((p && not true) && true) 1 0) 0 + 1) (cond ((true || d && p && not s) && true) 1 0)
-    same true true true = refl
-    same true true false = refl
-    same true false s = refl
-    same false true true = refl
-    same false true false = refl
-    same false false s = refl
-
-    by : (e : Bool) → same_path path q ≡ e → times q paths + cond (same_path path q) 1 0 ≡ cond (is_adjusted adjustment path q && is_some (places t q)) 1 0
-    by true e =
-        ap (λ n. n + cond (same_path path q) 1 0) (are q)
-        ∙ (λ j. cond (adjustment.deep && not (has_staging q)) (cond ((is_prefix path q && not (e j)) && here e j) 1 0) 0 + cond (e j) 1 0)
-        ∙ same (is_prefix path q) adjustment.deep (has_staging q)
-        ∙ sym (ap {B = ℕ} (λ b. cond b 1 0) (λ j. (e j || adjustment.deep && is_prefix path q && not (has_staging q)) && here e j))
-    by false e =
-        ap (λ n. n + cond (same_path path q) 1 0) (are q)
-        ∙ (λ j. cond (adjustment.deep && not (has_staging q)) (cond ((is_prefix path q && not (e j)) && is_some (places t q)) 1 0) 0 + cond (e j) 1 0)
-        ∙ plain (is_prefix path q) adjustment.deep (has_staging q) (is_some (places t q))
-        ∙ sym (ap {B = ℕ} (λ b. cond b 1 0) (λ j. (e j || adjustment.deep && is_prefix path q && not (has_staging q)) && is_some (places t q)))
-
--- the path alone, for a line that goes no further
-pub reached_alone : (adjustment : Adjustment) (path : Path) (t : Files) → IsPresent t path → adjustment.deep ≡ false → IsReached adjustment path t (path ∷ [])
-reached_alone adjustment path t present shallow = reached_with adjustment path t present [] (path ∷ []) none (λ q. omega arith)
-  where
-    none : AreReachedBelow adjustment path t []
-    none q = ap (λ d. cond (d && not (has_staging q)) (cond {A = ℕ} (stands_below t path q) 1 0) 0) (sym shallow)
+pub sorted_alone : (path : Path) → IsSorted path_cmp (path ∷ [])
+sorted_alone path k d from within = absurd (omega (arith, within))
 
 -- and all is done when it is
 pub all_alone : (adjustment : Adjustment) (path : Path) (t : Files) → IsReached adjustment path t (path ∷ []) → (now : ℕ) → (r : Result (Unit {0}) TreeFault) (u : Files)
@@ -419,18 +396,59 @@ pub all_alone : (adjustment : Adjustment) (path : Path) (t : Files) → IsReache
 all_alone adjustment path t reached now (Ok x) u here = all_done adjustment path t (path ∷ []) reached now 1 (omega arith) u here
 all_alone adjustment path t reached now (Err e) u here = tt
 
--- and so where the path comes first, and in another order
-pub reached_first : (adjustment : Adjustment) (path : Path) (t : Files) → IsPresent t path → (paths ordered more all : List Path) (copy : Path) → AreReachedBelow adjustment path t paths → IsPermutation paths ordered → more ≡ copy ∷ ordered
-    → copy ≡ path → IsPermutation more all → IsReached adjustment path t all
-reached_first adjustment path t present paths ordered more all copy are turned put same sorted =
-    reached_with adjustment path t present paths all are (λ q.
-    let whole : times q more ≡ cond {A = ℕ} (same_path path q) 1 0 + times q ordered = ap (times q) (put ∙ ap (λ (x : Path). x ∷ ordered) same) in
-    let old : times q ordered ≡ times q paths = times-permuted paths ordered turned q in
-    let new : times q all ≡ times q more = times-permuted more all sorted q in
-    omega (arith, new, whole, old))
+-- ---- all at and below the path
 
--- a listing without staging names
-pub unstaged : (adjustment : Adjustment) (path : Path) (t : Files) (listed paths : List Path) → adjustment.deep ≡ true → IsListing t path listed → paths ≡ filter (λ q. not (has_staging q)) listed → AreReachedBelow adjustment path t paths
-unstaged adjustment path t listed paths deep is e q =
-    ap (times q) e ∙ times-filter (λ q. not (has_staging q)) q listed ∙ ap (λ n. cond (not (has_staging q)) n 0) (is.once q)
-    ∙ ap (λ d. cond (d && not (has_staging q)) (cond (stands_below t path q) 1 0) 0) (sym deep)
+module _ (t : Files) (path : Path) (listed paths : List Path) (whole : listed ≡ filter (is_prefix path) (fin.keys t)) (kept : paths ≡ filter (λ q. not (has_staging q)) listed) where
+  -- for a line that goes down, those without a staging name
+  pub reached_deep : (adjustment : Adjustment) → (adjustment.deep && not (has_staging path)) ≡ true → IsReached adjustment path t paths
+  reached_deep adjustment goes q =
+      ap (times q) kept ∙ times-filter (λ q. not (has_staging q)) q listed
+      ∙ ap (λ n. cond (not (has_staging q)) n 0) (ap (times q) whole ∙ times-filter (is_prefix path) q (fin.keys t) ∙ ap (λ n. cond (is_prefix path q) n 0) (times-keys t q))
+      ∙ by (same_or_not path q)
+    where
+      both : (a b : Bool) → (a && not b) ≡ true → (a ≡ true) × (b ≡ false)
+      both true true e = absurd (let no : false ≡ true = e in cc)
+      both true false e = (refl, refl)
+      both false b e = absurd (let no : false ≡ true = e in cc)
+
+      deep : adjustment.deep ≡ true
+      deep = (both adjustment.deep (has_staging path) goes).0
+
+      other : (p s b : Bool) → ◌≡◌ {A = ℕ} (cond (not s) (cond p (cond b 1 0) 0) 0) (cond ((false || true && p && not s) && b) 1 0)
+      other true true b = refl
+      other true false b = refl
+      other false true b = refl
+      other false false b = refl
+
+      by : ((path ≡ q) × (same_path path q ≡ true)) ⊎ (same_path path q ≡ false)
+          → ◌≡◌ {A = ℕ} (cond (not (has_staging q)) (cond (is_prefix path q) (cond (is_some (places t q)) 1 0) 0) 0) (cond (is_adjusted adjustment path q && is_some (places t q)) 1 0)
+      by (inl s) =
+          let below : is_prefix path q ≡ true = ap (is_prefix path) (sym s.0) ∙ is_prefix-refl path in
+          let unstaged : has_staging q ≡ false = ap has_staging (sym s.0) ∙ (both adjustment.deep (has_staging path) goes).1 in
+          (λ j. cond (not (unstaged j)) (cond (below j) (cond (is_some (places t q)) 1 0) 0) 0)
+          ∙ sym (ap {B = ℕ} (λ b. cond b 1 0) (λ j. (s.1 j || adjustment.deep && is_prefix path q && not (has_staging q)) && is_some (places t q)))
+      by (inr d) =
+          other (is_prefix path q) (has_staging q) (is_some (places t q))
+          ∙ sym (ap {B = ℕ} (λ b. cond b 1 0) (λ j. (d j || deep j && is_prefix path q && not (has_staging q)) && is_some (places t q)))
+
+  -- in byte order, as the paths of a tree are
+  pub in_byte_order : IsSorted path_cmp paths
+  in_byte_order = subst (IsSorted path_cmp) (sym (kept ∙ ap (filter (λ q. not (has_staging q))) whole))
+      (IsSortedBy-filter (λ x y. is_lt (path_cmp x y)) ranks (λ q. not (has_staging q)) (filter (is_prefix path) (fin.keys t))
+      (IsSortedBy-filter (λ x y. is_lt (path_cmp x y)) ranks (is_prefix path) (fin.keys t) (keys_sorted (fin.entries t) (fin.entries_sorted t))))
+    where
+      ranks : IsStrictWeakOrder (λ (x y : Path). is_lt (path_cmp x y))
+      ranks = ranks_by path_total (λ (x : Path). x)
+
+      after : (x y : Path) → T (is_lt (path_cmp x y)) → is_lt (path_cmp y x) ≡ false
+      after x y h = ap is_lt (path_total.antisymm y x ∙ ap ordering_reverse (less_of-T (path_cmp x y) h))
+
+      keys_sorted : (es : List (Path × Object)) → T (is_sorted path_cmp es) → IsSorted path_cmp (map (λ e. e.0) es)
+      keys_sorted [] h k d from within = absurd (omega (arith, within))
+      keys_sorted (e ∷ []) h k d from within = absurd (omega (arith, within))
+      keys_sorted (e ∷ f ∷ es) h zero d from within =
+          after e.0 f.0 (each_T (is_lt (path_cmp e.0 f.0)) (below_all path_cmp e.0 es) (each_T (below_all path_cmp e.0 (f ∷ es)) (is_sorted path_cmp (f ∷ es)) h).0).0
+      keys_sorted (e ∷ f ∷ es) h (suc k) d from within =
+          let next : suc (k + 1) ≡ suc k + 1 = omega arith in
+          subst (λ n. is_lt (path_cmp (get_or (map {B = Path} (λ e. e.0) (e ∷ f ∷ es)) n d) (get_or (map {B = Path} (λ e. e.0) (f ∷ es)) k d)) ≡ false) next
+          (keys_sorted (f ∷ es) (each_T (below_all path_cmp e.0 (f ∷ es)) (is_sorted path_cmp (f ∷ es)) h).1 k d (omega arith) (omega (arith, within)))

@@ -4,14 +4,12 @@ use Rattle.std.specs.Prelude.{◌≡◌, ◌⊎◌, ℕ, List, take, Option, Som
 use Rattle.pv_path.specs.Names.{same_bytes}
 use Rattle.pv_path.specs.Paths.{Path, same_path}
 use Rattle.pv_steps.specs.declared.node.Kind.TheVariants.{File}
-use Rattle.pv_steps.specs.declared.node.Node.{Node}
 use Rattle.pv_steps.specs.declared.object.Object.{Object}
 use Rattle.pv_steps.specs.declared.step.Step.{Step}
 use Rattle.pv_steps.specs.declared.step.Step.TheVariants.{Write}
 use Rattle.pv_steps.specs.Objects.{with_content}
 use Rattle.pv_steps.specs.Trees.{Files, places}
 use Rattle.pv_walk.specs.declared.object_state.ObjectState.{ObjectState}
-use Rattle.pv_walk.specs.declared.object_state.Metadata.{Metadata}
 use Rattle.pv_walk.specs.declared.operation.Operation.{Operation}
 use Rattle.pv_walk.specs.Dividing.{parts}
 use Rattle.pv_walk.specs.SettingMetadata.{Lacks, GivesMetadata}
@@ -35,17 +33,6 @@ pub record GivesSet (path : Path) (sets : List Operation) (t : Files) (step : St
   pub new : ObjectState
   pub is : run sets (object_states_of (places t) path) ≡ Some new
   pub gives : GivesBytes path new.body.payload t step ⊎ GivesMetadata path new.metadata t step
-
--- An object has the owners and the special bits of this metadata.
-abbrev pub HasBase : Metadata → Node → Type 0
-HasBase new node = (node.uid ≡ new.uid) × ((node.gid ≡ new.gid) × (node.special ≡ new.special))
-
--- An object has this metadata.
-pub record Wears (new : Metadata) (node : Node) : Type 0 where
-  pub base : HasBase new node
-  pub acl : node.acl ≡ new.acl
-  pub attrs : node.attrs ≡ new.attrs
-  pub letters : node.letters ≡ new.letters
 
 -- ---- bytes
 

@@ -1,7 +1,7 @@
 -- Adjusting everything that a line reaches from a path: its steps, and the intermediate states (tmpfiles.d(5)).
-use Rattle.std.specs.Prelude.{◌≡◌, ℕ, Bool, true, cond, not, ◌&&◌, List, take, Option, is_some}
+use Rattle.std.specs.Prelude.{◌≡◌, ℕ, Bool, true, cond, ◌&&◌, List, take, Option, is_some}
 use Rattle.std.specs.declared.cmp.Ordering.TheVariants.{Less, Greater}
-use Rattle.pv_path.specs.Paths.{Path, path_cmp, has_staging}
+use Rattle.pv_path.specs.Paths.{Path, path_cmp}
 use Rattle.pv_steps.specs.declared.step.Step.{Step}
 use Rattle.pv_steps.specs.Trees.{Files, places, IsPresent}
 use Rattle.pv_walk.specs.declared.object_state.ObjectState.{ObjectState}
@@ -9,7 +9,7 @@ use Rattle.pv_walk.specs.declared.operation.Operation.{Operation}
 use Rattle.pv_walk.specs.Dividing.{parts}
 use Rattle.pv_walk.specs.Nodes.{object_states_of}
 use Rattle.pv_walk.specs.Operations.{run}
-use Rattle.pv_walk.specs.Listing.{times, stands_below}
+use Rattle.pv_walk.specs.Listing.{times}
 use Rattle.pv_table.specs.declared.action.Adjustment.{Adjustment}
 use Rattle.pv_table.specs.Effects.{is_adjusted}
 use Rattle.pv_create.specs.Adjusting.{GivesSet}
@@ -41,9 +41,3 @@ pub record GivesReached (adjustment : Adjustment) (path : Path) (t : Files) (ste
 -- A list of the existing paths that the line reaches, each once.
 abbrev pub IsReached : Adjustment → Path → Files → List Path → Type 0
 IsReached adjustment path t paths = (q : Path) → times q paths ≡ cond (is_adjusted adjustment path q && is_some (places t q)) 1 0
-
--- A list of the existing paths below a path that the line reaches, each once. These are none, or those without
--- staging names if the line goes down.
-abbrev pub AreReachedBelow : Adjustment → Path → Files → List Path → Type 0
-AreReachedBelow adjustment path t paths =
-    (q : Path) → times q paths ≡ cond (adjustment.deep && not (has_staging q)) (cond (stands_below t path q) 1 0) 0

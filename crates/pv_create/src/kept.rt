@@ -9,11 +9,11 @@ ghost use Rattle.pv_walk.specs.Nodes.{object_state_of};
 ghost use Rattle.pv_walk.specs.Operations.{changed, done, run};
 ghost use Rattle.pv_steps.specs.declared.object.Object.{Object as ObjectValue};
 ghost use Rattle.pv_steps.specs.Objects.{is_directory};
-ghost use Rattle.pv_steps.specs.Trees.{places, kind_of, node_at, IsPresent, IsTree};
+ghost use Rattle.pv_steps.specs.Trees.{places, kind_of, node_at};
 
 use pv_acl::{AclLine, How, Part, apply_entries};
 use pv_path::{Bytes, TreePath};
-use pv_steps::{Kind, Node, Tree, node_of, special_bits};
+use pv_steps::{Kind, Node, Tree, special_bits};
 use pv_walk::{Change, Operation, admits, is_same_base, masked_special, set_masked_base};
 use std::alloc::{AllocError, Global};
 
@@ -23,14 +23,13 @@ pub(crate) fn are_kept<T: Tree>(
     alloc: Global,
     tree: &T,
     path: &TreePath,
+    node: &Node,
     sets: &[Operation],
 ) -> Result<bool, AllocError>
-    requires present { IsPresent (T.state tree.now) path.now }
-    ensures kept { IfOk result (λ kept. kept ≡ true → (o : ObjectValue) → places (T.state tree.now) path.now ≡ Some o
+    requires node { Some node.now ≡ node_at (T.state tree.now) path.now }
+    ensures { IfOk result (λ kept. kept ≡ true → (o : ObjectValue) → places (T.state tree.now) path.now ≡ Some o
         → run sets.now (Some (object_state_of o)) ≡ Some (object_state_of o)) }
-    ensures tree { IsTree (T.state tree.now) }
 {
-    let node = node_of(tree, path);
     for operation in sets {
         if !is_kept(alloc, tree, path, node, operation)? {
             return Ok(false);

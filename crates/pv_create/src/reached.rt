@@ -1,18 +1,17 @@
 //! Adjusting of everything that a line reaches from a path.
-ghost use Rattle.std.specs.Prelude.{◌≡◌, IfOk, OnOk, IsSorted};
-ghost use Rattle.pv_path.specs.Paths.{path_cmp};
+ghost use Rattle.std.specs.Prelude.{◌≡◌, ◌&&◌, ◌∷◌, [], not, IfOk, OnOk, IsSorted};
+ghost use Rattle.pv_path.specs.Paths.{path_cmp, has_staging};
 ghost use Rattle.pv_steps.specs.Acting.{Acted};
 ghost use Rattle.pv_steps.specs.Trees.{IsPresent};
 ghost use Rattle.pv_table.specs.Created.{adjust_work};
 ghost use Rattle.pv_table.specs.Effects.{is_adjusted, adjust_at};
-ghost use Rattle.pv_create.specs.Reached.{AdjustingInOrder, AreReachedBelow, GivesReached, IsReached};
+ghost use Rattle.pv_create.specs.Reached.{AdjustingInOrder, GivesReached, IsReached};
 ghost use Rattle.pv_create.specs.Sets.{AreSets};
 
 use crate::object::adjust;
 use pv_path::{TreePath, has_staging};
 use pv_steps::{Tree, TreeFault};
 use pv_table::Adjustment;
-use pv_walk::below;
 use std::alloc::{AllocError, Global};
 
 /// Adjusts the object at a path, and for a recursive line everything below it, except staging names (tmpfiles.d(5), Z,
@@ -57,8 +56,8 @@ fn adjust_each<T: Tree>(
         (adjust_work adjustment.now path.now (T.state tree.old)) now tree.old tree.new result }
 {
     let paths = reached_paths(alloc, tree, adjustment, path)?;
-    for at in &paths {
-        adjust(alloc, tree, at, adjustment.sets.as_slice(), now)?;
+    for at in paths {
+        adjust(alloc, tree, &at, adjustment.sets.as_slice(), now)?;
     }
     Ok(())
 }
@@ -74,26 +73,27 @@ fn reached_paths<T: Tree>(
     ensures reached { IfOk result (λ paths. IsReached adjustment.now path.now (T.state tree.now) paths.items) }
     ensures order { IfOk result (λ paths. IsSorted path_cmp paths.items) }
 {
-    let mut paths = reached_below(alloc, tree, adjustment, path)?;
-    paths.sort_unstable();
-    paths.insert(0, path.copy()?)?;
-    paths.sort_unstable();
+    if !goes_below(adjustment, path) {
+        return only(alloc, path);
+    }
+    let mut paths = tree.at_and_below(alloc, path)?;
+    paths.retain(|at| !has_staging(at));
     Ok(paths)
 }
 
-/// Returns the paths below one path that a line reaches, in any order. They are none, or all without a staging name.
-fn reached_below<T: Tree>(
-    alloc: Global,
-    tree: &T,
-    adjustment: &Adjustment,
-    path: &TreePath,
-) -> Result<Vec<TreePath>, AllocError>
-    ensures { IfOk result (λ paths. AreReachedBelow adjustment.now path.now (T.state tree.now) paths.items) }
+/// Returns whether a line may reach something below a path. It reaches no path there that has a staging name. If the
+/// path itself has one, each path below has it too.
+fn goes_below(adjustment: &Adjustment, path: &TreePath) -> bool
+    ensures { result ≡ (adjustment.now.deep && not (has_staging path.now)) }
 {
-    if !adjustment.deep {
-        return Ok(Vec::new(alloc));
-    }
-    let mut paths = below(alloc, tree, path)?;
-    paths.retain(|at| !has_staging(at));
+    adjustment.deep && !has_staging(path)
+}
+
+/// Returns a list of one path.
+fn only(alloc: Global, path: &TreePath) -> Result<Vec<TreePath>, AllocError>
+    ensures { IfOk result (λ paths. paths.items ≡ path.now ∷ []) }
+{
+    let mut paths = Vec::new(alloc);
+    paths.push(path.copy()?)?;
     Ok(paths)
 }

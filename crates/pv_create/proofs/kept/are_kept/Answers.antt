@@ -11,6 +11,6 @@ loop-operation-preserved g c =
     kept_more c.args.sets.now c.loop-operation.operation-index c.operation-item.result (places (g.T.Tree.state c.args.tree.now)) c.args.path.now c.loop-operation-test.true c.operation-item.is c.loop-operation.invariant
     (c.in_ok-is_kept.ensures c.if-not-branch.false)
 
-pub returns-clause-kept : goal.returns-clause-kept
-returns-clause-kept g c =
+pub returns : goal.returns
+returns g c =
     λ h. kept_all c.args.sets.now c.loop-operation.operation-index (places (g.T.Tree.state c.args.tree.now)) c.args.path.now c.loop-operation-test.false c.loop-operation.invariant

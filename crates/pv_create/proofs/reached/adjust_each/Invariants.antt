@@ -1,4 +1,4 @@
-use Rattle.std.proofs.Common.{◌≡◌, take}
+use Rattle.std.proofs.Common.{◌≡◌}
 use Rattle.std.specs.Prelude.{sum, map}
 use Rattle.pv_steps.specs.Acting.{Acted}
 use Rattle.pv_steps.specs.Trees.{places}
@@ -11,7 +11,7 @@ use Rattle.pv_create.proofs.reached.adjust_each.Given as goal
 
 abbrev pub invariant-loop-at : goal.invariant-loop-at
 invariant-loop-at g l = record {
-  here : places (g.T.Tree.state l.tree) ≡ each_at (become l.now l.adjustment.sets) (take l.at-index l.at-items) (places (g.T.Tree.state l.fn.tree));
+  here : places (g.T.Tree.state l.tree) ≡ each_at (become l.now l.adjustment.sets) l.yielded (places (g.T.Tree.state l.fn.tree));
   acted : Acted g.T.Tree (AdjustingInOrder l.adjustment l.path (g.T.Tree.state l.fn.tree)) (GivesReached l.adjustment l.path (g.T.Tree.state l.fn.tree))
-      (sum (map (λ q. change_work l.adjustment.sets (places (g.T.Tree.state l.fn.tree) q)) (take l.at-index l.at-items))) l.now l.fn.tree l.tree well;
+      (sum (map (λ q. change_work l.adjustment.sets (places (g.T.Tree.state l.fn.tree) q)) l.yielded)) l.now l.fn.tree l.tree well;
 }

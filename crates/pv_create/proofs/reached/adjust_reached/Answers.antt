@@ -1,5 +1,6 @@
-use Rattle.std.proofs.Common.{◌+◌, ◌∷◌, [], take, refl, arith}
-use Rattle.std.specs.Prelude.{map, sum}
+use Rattle.std.proofs.Common.{◌+◌, ◌∷◌, [], take, refl, ap, arith}
+use Rattle.std.specs.Prelude.{◌&&◌, not, map, sum}
+use Rattle.pv_path.specs.Paths.{has_staging}
 use Rattle.pv_steps.specs.Trees.{places}
 use Rattle.pv_steps.proofs.ActingLaws.{Moves, well, acted_none, acted_within}
 use Rattle.pv_table.specs.Created.{change_work, adjust_work}
@@ -13,7 +14,7 @@ returns-else-adjustment-clause-acted g c =
     let adjustment = c.args.adjustment.now in
     let path = c.args.path.now in
     let t = g.T.Tree.state c.args.tree.now in
-    let reached = reached_alone adjustment path t c.requires.present c.if-adjustment.false in
+    let reached = reached_alone adjustment path t c.requires.present (ap (λ d. d && not (has_staging path)) c.if-adjustment.false) in
     acted_within g.T.Tree (sum (map (λ q. change_work adjustment.sets (places t q)) (take (0 + 1) (path ∷ [])))) (adjust_work adjustment path t)
     (at_most adjustment path t (path ∷ []) reached c.args.now (0 + 1))
     (acted_more adjustment path t (path ∷ []) reached c.args.now 0 path (omega arith) refl t refl
@@ -26,5 +27,8 @@ adjust-requires-clause-sets g c = rw c.as_slice.ensures c.requires.sets
 
 pub returns-else-adjustment-clause-ok : goal.returns-else-adjustment-clause-ok
 returns-else-adjustment-clause-ok g c =
-    all_alone c.args.adjustment.now c.args.path.now (g.T.Tree.state c.args.tree.now) (reached_alone c.args.adjustment.now c.args.path.now (g.T.Tree.state c.args.tree.now) c.requires.present c.if-adjustment.false) c.args.now
+    let adjustment = c.args.adjustment.now in
+    let path = c.args.path.now in
+    let t = g.T.Tree.state c.args.tree.now in
+    all_alone adjustment path t (reached_alone adjustment path t c.requires.present (ap (λ d. d && not (has_staging path)) c.if-adjustment.false)) c.args.now
     c.adjust.result (g.T.Tree.state c.adjust.new.tree) (rw c.as_slice.ensures at c.adjust.ensures.ok)
