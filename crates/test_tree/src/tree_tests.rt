@@ -8,7 +8,7 @@ ghost use Rattle.pv_tree.specs.Finding.{IsRising};
 use crate::plain_tree::{apply, entries_text, put, root_object, root_tree};
 use crate::shown::{add_object, add_path};
 use crate::step_rows::{bytes_of, can, has_room, is_kind, path_of, perform, pieces_of, step_of};
-use pv_path::{Bytes, TreePath};
+use pv_path::{Bytes, TreePath, print_path};
 use pv_steps::{Kind, Object, Step, Tree};
 use pv_tree::{BuildFault, Fused, MemTree, Probe, TreeBuilder, WalkEntry, find};
 use std::alloc::Global;
@@ -431,6 +431,41 @@ fn looks_for_names_beside_a_path(rt: HostRuntime) {
         assert!(rt; has == want, "{path:?} {names:?}");
         let limited = tree.has_beside(&at, others.names());
         assert!(rt; limited == want, "{path:?} {names:?}");
+    }
+}
+
+/// Paths, and the paths at and below them in the tree of `ANYWHERE`, each after a space.
+const AT_AND_BELOW: &[(&[u8], &[u8])] = &[
+    (b"/", b" / /a /a/f /m /m/l /z /z/f"),
+    (b"/a", b" /a /a/f"),
+    (b"/m/l", b" /m/l"),
+    (b"/a/f/x", b""),
+    (b"/a/q", b""),
+    (b"/q/q", b""),
+    (b"/z", b" /z /z/f"),
+];
+
+/// The paths at and below a path, each after a space.
+fn text_at_and_below<T: Tree>(rt: &impl Abort, alloc: Global, tree: &T, text: &[u8]) -> Vec<u8> {
+    let path = path_of(rt, alloc, text);
+    let mut listed = Vec::new(alloc);
+    let paths = tree.at_and_below(alloc, &path).expect(rt, "memory");
+    for path in &paths {
+        listed.push(b' ').expect(rt, "memory");
+        let printed = print_path(alloc, path).expect(rt, "memory");
+        listed.extend_from_slice(&printed).expect(rt, "memory");
+    }
+    listed
+}
+
+#[test]
+fn lists_at_and_below(rt: HostRuntime) {
+    let tree = Fused::new(added_anywhere(&rt, rt.alloc()), None);
+    for &(path, paths) in AT_AND_BELOW {
+        let found = text_at_and_below(&rt, rt.alloc(), tree.inner(), path);
+        assert!(rt; found.as_slice() == paths, "{path:?} {found:?}");
+        let limited = text_at_and_below(&rt, rt.alloc(), &tree, path);
+        assert!(rt; limited.as_slice() == paths, "{path:?} {limited:?}");
     }
 }
 
