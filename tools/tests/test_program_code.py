@@ -12,7 +12,7 @@ class Code(unittest.TestCase):
         code = Path(PROGRAM).read_bytes()
         # The program keeps the names of its functions, so a name that is not there means a function that is not there.
         self.assertIn(b"pv_create::run::create_run", code)
-        self.assertNotIn(b"pv_tree::apply::parts_fit", code)
+        self.assertFalse(b"pv_tree::apply::parts_fit" in code, "the program has code for parts_fit")
 
 
 if __name__ == "__main__":
