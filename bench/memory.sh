@@ -1,10 +1,11 @@
 #!/usr/bin/env bash
 # Refuses each allocation of some runs of the built program in turn: each run must end as it does with ample memory, or
-# with status 71 and nothing written. It needs a C compiler, builds the program anew before, and is no part of the gate.
+# with status 71 and nothing written. It needs a C compiler, and is not a part of the gate. It builds the program anew
+# before. If PROGRAM is the path of a build of the program, this build is used, and none is made.
 set -eu
 
 top=$(cd "$(dirname "$0")/.." && pwd)
-program=$top/crates/provision/out/provision
+program=${PROGRAM:-$top/crates/provision/out/provision}
 folder=$(mktemp -d)
 trap 'rm -rf "$folder"' EXIT
 
@@ -34,7 +35,7 @@ __attribute__((destructor)) static void tell(void) {
 C
 cc -shared -fPIC -O1 -o "$folder/refusing.so" "$folder/refusing.c"
 
-(cd "$top/crates/provision" && rt run -- $(cat args) < stdin > "$folder/output" 2> "$folder/said") || { cat "$folder/said"; exit 1; }
+[ -n "${PROGRAM:-}" ] || (cd "$top/crates/provision" && rt run -- $(cat args) < stdin > "$folder/output" 2> "$folder/said") || { cat "$folder/said"; exit 1; }
 
 # run NAME VARIABLE IMAGE WORDS..: runs the program with the allocator, and prints its status
 run() {
