@@ -1,8 +1,9 @@
 -- How the names of a listing are gone through.
-use Rattle.std.proofs.Common.{◌≡◌, ◌∙◌, ◌+◌, ◌<◌, ℕ, Bool, true, false, List, [], ◌∷◌, ◌++◌, length, map, reverse, drop, get_or, Some, refl, sym, ap, cond, Bor}
-use Rattle.std.proofs.lemmas.List.{at_drop_more, map-append, reverse-append}
+use Rattle.std.proofs.Common.{◌≡◌, ◌∙◌, ◌+◌, ◌<◌, ℕ, Bool, true, false, List, [], ◌∷◌, length, map, reverse, drop, get_or, Some, refl, sym, ap, cond, Bor}
+use Rattle.std.proofs.lemmas.List.{at_drop_more}
 use Rattle.pv_path.specs.Names.{same_bytes}
 use Rattle.pv_path.proofs.PathLaws.{same_bytes-decides}
+use Rattle.pv_walk.proofs.OrderLaws.{map_reverse}
 use Rattle.pv_folder.specs.declared.item.HostItem.{HostItem}
 use Rattle.pv_folder.specs.Reading.{kind_named}
 
@@ -31,17 +32,9 @@ module _ (name : List ℕ) (items : List HostItem) (i : ℕ) (d : HostItem) (wit
 -- ---- backwards
 
 module _ {A B : Type 0} (f : A → B) where
-  map_reverse : (xs : List A) → map f (reverse xs) ≡ reverse (map f xs)
-  map_reverse [] = refl
-  map_reverse (x ∷ xs) =
-      ap (map f) (reverse-append (x ∷ []) xs)
-      ∙ map-append f (reverse xs) (x ∷ [])
-      ∙ ap (λ ys. ys ++ f x ∷ []) (map_reverse xs)
-      ∙ sym (reverse-append (f x ∷ []) (map f xs))
-
   -- a function of what was gone through backwards
   pub map_now : (xs : List A) (seen : List (Bor A)) → map (λ x. x.now) seen ≡ reverse xs → map (λ x. f x.now) seen ≡ reverse (map f xs)
-  map_now xs seen is = by seen ∙ ap (map f) is ∙ map_reverse xs
+  map_now xs seen is = by seen ∙ ap (map f) is ∙ map_reverse f xs
     where
       by : (seen : List (Bor A)) → map (λ x. f x.now) seen ≡ map f (map (λ x. x.now) seen)
       by [] = refl

@@ -26,6 +26,7 @@ use Rattle.pv_laws.proofs.Repeated.{copy_adjusts_not}
 use Rattle.pv_laws.proofs.Sets.{impossible}
 use Rattle.pv_laws.proofs.Stops.{GoesBefore, before_one, all_in_place}
 use Rattle.pv_path.proofs.Tests.{true_not_false}
+pub use Rattle.pv_walk.proofs.OrderLaws.{all_before, all_behind}
 
 -- ---- lists
 
@@ -45,15 +46,6 @@ split test (x ∷ xs) = by (test x) refl (split test xs)
     by true e rest = inl (record { before = []; one = x; after = xs; whole = refl; passes = e })
     by false e (inl found) = inl (record { before = x ∷ found.before; one = found.one; after = found.after; whole = ap (λ ys. x ∷ ys) found.whole; passes = found.passes })
     by false e (inr none) = inr (e, none)
-
-module _ {A : Type 0} (P : A → Type 0) where
-  pub all_before : (xs ys : List A) → AllByRecursion P (xs ++ ys) → AllByRecursion P xs
-  all_before [] ys h = tt
-  all_before (x ∷ xs) ys h = (h.0, all_before xs ys h.1)
-
-  pub all_behind : (xs ys : List A) → AllByRecursion P (xs ++ ys) → AllByRecursion P ys
-  all_behind [] ys h = h
-  all_behind (x ∷ xs) ys h = all_behind xs ys h.1
 
 module _ {A : Type 0} (R : A → A → Type 0) where
   pub front_pairs : (xs ys : List A) → Pairwise R (xs ++ ys) → Pairwise R xs

@@ -13,6 +13,7 @@ use Rattle.pv_requests.specs.declared.request.Request.{Request}
 use Rattle.pv_requests.specs.declared.request.Request.TheVariants as request
 use Rattle.pv_text.specs.declared.place.Place.{Place}
 use Rattle.pv_requests.specs.Allowed.{IsAllowed}
+use Rattle.pv_walk.proofs.OrderLaws.{all_before, all_behind}
 use Rattle.pv_sysusers.specs.Allowed.{AreOwners, IsAllowedLine}
 use Rattle.pv_sysusers.specs.Finishing.{AreFinished, Finishes, IsEither, IsPartWritten, files_with}
 use Rattle.pv_sysusers.specs.Groups.{NewGroups, decided_groups, in_use_message, no_groups}
@@ -94,10 +95,6 @@ members_alike a b like (account ∷ accounts) all = ((λ i. is_some (like.ids i 
 
 -- ---- what lines ask for where fewer users are made
 
-all_both : {X : Type 0} (P : X → Type 0) (xs ys : List X) → AllByRecursion P (xs ++ ys) → AllByRecursion P xs × AllByRecursion P ys
-all_both P [] ys all = (tt, all)
-all_both P (x ∷ xs) ys all = let rest = all_both P xs ys all.1 in ((all.0, rest.0), rest.1)
-
 module _ (made fewer : List ℕ → Bool) (less : (name : List ℕ) → fewer name ≡ true → made name ≡ true) where
   module _ (P : Need → Type 0) where
     member_less : (user group : List ℕ) (place : Place) → AllByRecursion P (member_needs (made user) user group place) → AllByRecursion P (member_needs (fewer user) user group place)
@@ -118,8 +115,9 @@ module _ (made fewer : List ℕ → Bool) (less : (name : List ℕ) → fewer na
     needs_less : (lines : List Line) → AllByRecursion P (flat_map (needs_of made) lines) → AllByRecursion P (flat_map (needs_of fewer) lines)
     needs_less [] all = tt
     needs_less (line ∷ lines) all =
-        let parts = all_both P (needs_of made line) (flat_map (needs_of made) lines) all in
-        all_append P (needs_of fewer line) (flat_map (needs_of fewer) lines) (line_less line parts.0) (needs_less lines parts.1)
+        let here : AllByRecursion P (needs_of made line) = all_before P (needs_of made line) (flat_map (needs_of made) lines) all in
+        let rest : AllByRecursion P (flat_map (needs_of made) lines) = all_behind P (needs_of made line) (flat_map (needs_of made) lines) all in
+        all_append P (needs_of fewer line) (flat_map (needs_of fewer) lines) (line_less line here) (needs_less lines rest)
 
   module _ (P : Account → Type 0) where
     account_less : (user : List ℕ) (place : Place) → AllByRecursion P (made_account (made user) user place) → AllByRecursion P (made_account (fewer user) user place)
@@ -139,8 +137,9 @@ module _ (made fewer : List ℕ → Bool) (less : (name : List ℕ) → fewer na
     accounts_less : (lines : List Line) → AllByRecursion P (flat_map (accounts_of made) lines) → AllByRecursion P (flat_map (accounts_of fewer) lines)
     accounts_less [] all = tt
     accounts_less (line ∷ lines) all =
-        let parts = all_both P (accounts_of made line) (flat_map (accounts_of made) lines) all in
-        all_append P (accounts_of fewer line) (flat_map (accounts_of fewer) lines) (user_less line parts.0) (accounts_less lines parts.1)
+        let here : AllByRecursion P (accounts_of made line) = all_before P (accounts_of made line) (flat_map (accounts_of made) lines) all in
+        let rest : AllByRecursion P (flat_map (accounts_of made) lines) = all_behind P (accounts_of made line) (flat_map (accounts_of made) lines) all in
+        all_append P (accounts_of fewer line) (flat_map (accounts_of fewer) lines) (user_less line here) (accounts_less lines rest)
 
 -- a user who is made where more users are there is made if there are fewer
 made_before : (users more after : Ids) (lines : List Line) → AreAlike after (users ++ more) → (name : List ℕ) → is_made after lines name ≡ true → is_made users lines name ≡ true

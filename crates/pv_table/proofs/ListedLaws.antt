@@ -5,6 +5,7 @@ use Rattle.std.proofs.Common.{zero, suc, refl, sym, ap, ◌∙◌, arith}
 use Rattle.std.specs.List.{enumerate_from, AllByRecursion}
 use Rattle.pv_path.specs.Paths.{same_path, is_prefix}
 use Rattle.pv_lines.specs.declared.line.Line.{Line}
+pub use Rattle.pv_walk.proofs.OrderLaws.{all_map}
 use Rattle.pv_table.specs.Active.{Listed, placed, is_adjusting_line, ordered, in_create_order}
 use Rattle.pv_table.specs.Reaching.{path_in, is_creating}
 use Rattle.pv_table.specs.Repeatable.{IsAt}
@@ -29,10 +30,6 @@ all_tests test (x ∷ xs) = by (test x) refl (all_tests test xs)
     by : (b : Bool) → test x ≡ b → AllByRecursion (λ x. test x ≡ true) (filter test xs) → AllByRecursion (λ x. test x ≡ true) (cond b (x ∷ filter test xs) (filter test xs))
     by true e rest = (e, rest)
     by false e rest = rest
-
-pub all_map : {A : Type 0} (P Q : A → Type 0) → ((x : A) → P x → Q x) → (xs : List A) → AllByRecursion P xs → AllByRecursion Q xs
-all_map P Q f [] h = tt
-all_map P Q f (x ∷ xs) h = (f x h.0, all_map P Q f xs h.1)
 
 module _ (P : Listed → Type 0) where
   pub all_placed : (xs : List Listed) (x : Listed) → AllByRecursion P xs → P x → AllByRecursion P (placed xs x)

@@ -3,7 +3,6 @@
 use Rattle.std.specs.Prelude.{ℕ, ◌+◌, Bool, false, not, ◌&&◌, ◌||◌, ◌==◌, List, [], ◌∷◌, ◌++◌, map, filter, length, take, Option, Some, None, is_some, is_none, unwrap_or, codes, if◌then◌else◌}
 use Rattle.std.specs.FinMap as fin
 use Rattle.std.specs.List.{list_any, flat_map, range_with_len}
-use Rattle.std.specs.Option.{option_map_or}
 use Rattle.pv_lines.specs.declared.line.Line.{Line}
 use Rattle.pv_path.specs.Paths.{Path, is_prefix}
 use Rattle.pv_path.specs.Printing.{printed_path}
@@ -11,11 +10,12 @@ use Rattle.pv_steps.specs.declared.node.Kind.{Kind}
 use Rattle.pv_steps.specs.declared.node.Kind.TheVariants.{Directory}
 use Rattle.pv_steps.specs.declared.object.Object.{Object}
 use Rattle.pv_steps.specs.declared.why.Why.{Why}
-use Rattle.pv_steps.specs.Objects.{is_directory, modified}
+use Rattle.pv_steps.specs.Objects.{modified}
 use Rattle.pv_steps.specs.Refusal.{refusal}
 use Rattle.pv_steps.specs.Trees.{Files, Places, places, kind_of, tabulate}
 use Rattle.pv_text.specs.GivenMessages.{message_text_at}
 use Rattle.pv_walk.specs.Removal.{without}
+pub use Rattle.pv_walk.specs.Removal.{is_directory_at}
 use Rattle.pv_table.specs.declared.taking.Taking.{Taking}
 use Rattle.pv_table.specs.declared.taking.Taking.TheVariants as taking
 use Rattle.pv_table.specs.ActionTable.{id_for_new, taking_of}
@@ -41,10 +41,6 @@ refused_place line t path = refusal t path (owner_given line)
 -- A line names a path, and is not refused there.
 abbrev pub is_named : Line → Places → Path → Bool
 is_named line t path = names line path && is_none (refused_place line t path)
-
--- Whether the object at a path is a directory.
-abbrev pub is_directory_at : Places → Path → Bool
-is_directory_at t path = option_map_or is_directory (kind_of (t path)) false
 
 -- Whether a line asks to remove a path. An `r` line asks for the paths that it names. An `R` line asks for these and
 -- everything below them. A `D` line asks for everything below a directory that it names. Paths at which the line is

@@ -42,3 +42,5 @@ pub mod FindingLaws
 pub mod WholeLaws
 pub mod PathSetLaws
 pub mod OrderLaws
+pub mod PostOrderLaws
+pub mod SweepOrderLaws

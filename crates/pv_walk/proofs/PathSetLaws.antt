@@ -2,7 +2,7 @@
 use Rattle.std.specs.Prelude.{◌≡◌, ℕ, ◌-◌, ◌≤◌, ◌<◌, Bool, true, false, ◌||◌, List, [], ◌∷◌, ◌++◌, length, reverse, Option, Some, None, IfSome, Result, Ok, Err, is_ok, slice_get, option_map}
 use Rattle.std.proofs.Common.{Bor, refl, sym, ap, subst, ◌∙◌, inl, inr, arith, get_or, zero, suc, length-append}
 use Rattle.std.proofs.Math.Bool.{or-false, or-true}
-use Rattle.std.proofs.lemmas.List.{reverse-append}
+use Rattle.std.proofs.lemmas.List.{reverse-append, length-reverse}
 use Rattle.std.proofs.lemmas.List.Folds.{list_any-append}
 use Rattle.std.specs.List.{AllByRecursion}
 use Rattle.std.specs.List.Sorted.{IsStrictlySortedBy, IsNonDecreasingBy, IsBinarySearchResult}
@@ -37,7 +37,7 @@ first_passes : (P : Path → Type 0) (x : Path) (xs : List Path) → ((q : Path)
 first_passes P x xs each = each x (ap (λ b. b || is_one_of xs x) ((same_path-decides x x).1 refl))
 
 -- what holds of each member holds of the whole list
-members_all : (P : Path → Type 0) (xs : List Path) → ((q : Path) → is_one_of xs q ≡ true → P q) → AllByRecursion P xs
+pub members_all : (P : Path → Type 0) (xs : List Path) → ((q : Path) → is_one_of xs q ≡ true → P q) → AllByRecursion P xs
 members_all P [] each = tt
 members_all P (x ∷ xs) each = (first_passes P x xs each, members_all P xs (λ q h. each q (ap (λ b. same_path x q || b) h ∙ or-true (same_path x q))))
 
@@ -67,6 +67,20 @@ at_place (x ∷ xs) (suc i) p e = ap (λ b. same_path x p || b) (at_place xs i p
 pub last_member : (xs : List Path) (i : ℕ) (o : Option (Bor Path)) → option_map (λ s. s.now) o ≡ slice_get xs i → IfSome o (λ p. is_one_of (reverse xs) p.now ≡ true)
 last_member xs i None e = tt
 last_member xs i (Some s) e = one_of-reverse xs s.now ∙ at_place xs i s.now (sym e)
+
+-- the first of a list in reverse is its last
+pub first_of_reverse : (xs : List Path) → slice_get (reverse xs) 0 ≡ slice_get xs (length xs - 1)
+first_of_reverse [] = refl
+first_of_reverse (x ∷ []) = refl
+first_of_reverse (x ∷ y ∷ xs) =
+    let one : length (x ∷ y ∷ xs) - 1 ≡ suc (length xs) = omega arith in
+    let other : length (y ∷ xs) - 1 ≡ length xs = omega arith in
+    ap (λ (ps : List Path). slice_get ps 0) (reverse-cons x (y ∷ xs)) ∙ front (reverse (y ∷ xs)) (length-reverse (y ∷ xs)) ∙ first_of_reverse (y ∷ xs)
+    ∙ ap (slice_get (y ∷ xs)) other ∙ sym (ap (slice_get (x ∷ y ∷ xs)) one)
+  where
+    front : (ys : List Path) → length ys ≡ suc (length xs) → slice_get (ys ++ x ∷ []) 0 ≡ slice_get ys 0
+    front [] e = absurd (omega (arith, e))
+    front (z ∷ ys) e = refl
 
 -- ---- a search
 

@@ -84,7 +84,7 @@ steps_first : (files : Files) (p : Path) (paths : List Path) → steps_of files 
 steps_first files p paths = reverse-first (removal_at files p) (map (removal_at files) paths)
 
 -- they are the removals of the paths, the last path first
-steps_are : (files : Files) (paths : List Path) → steps_of files paths ≡ map (removal_at files) (reverse paths)
+pub steps_are : (files : Files) (paths : List Path) → steps_of files paths ≡ map (removal_at files) (reverse paths)
 steps_are files [] = refl
 steps_are files (p ∷ paths) =
     steps_first files p paths ∙ ap (λ ss. ss ++ removal_at files p ∷ []) (steps_are files paths)

@@ -12,6 +12,7 @@ pub mod Seeing
 pub mod Making
 pub mod Removal
 pub mod Listing
+pub mod PostOrder
 pub mod Putting
 pub mod Preparing
 pub mod Copying

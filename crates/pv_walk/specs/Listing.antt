@@ -1,6 +1,6 @@
 -- Listings of the objects below a path (ftw(3)). Each object is listed once, and before its children.
 use Rattle.std.specs.Prelude.{◌≡◌, ℕ, ◌+◌, ◌≤◌, Bool, true, cond, ◌&&◌, List, [], ◌∷◌, ◌++◌, map, is_some}
-use Rattle.pv_path.specs.Paths.{Path, same_path}
+use Rattle.pv_path.specs.Paths.{Path, is_prefix, same_path}
 use Rattle.pv_steps.specs.Trees.{Files, places, names_below, child_name, IsPresent}
 use Rattle.pv_walk.specs.Removal.{is_below}
 
@@ -20,6 +20,10 @@ children_of files path = map (λ n. path ++ n ∷ []) (names_below files path)
 -- Whether the second path is below the first, and there is an object at it.
 abbrev pub stands_below : Files → Path → Path → Bool
 stands_below files path q = is_below path q && is_some (places files q)
+
+-- Whether the second path is the first one or is below it, and there is an object at it.
+abbrev pub stands_at : Files → Path → Path → Bool
+stands_at files path q = is_prefix path q && is_some (places files q)
 
 -- Each child of a listed path that is present comes after it in the list, or is in the work that is left.
 abbrev pub ParentsFirst : Files → List Path → List Path → Type 0

@@ -23,9 +23,13 @@ is_below path q = is_prefix path q && not (same_path path q)
 abbrev pub removal : Bool → Path → Step
 removal directory path = if directory then RemoveDir path else Unlink path
 
+-- Whether there is a directory at a path.
+abbrev pub is_directory_at : Places → Path → Bool
+is_directory_at t path = option_map_or is_directory (kind_of (t path)) false
+
 -- The step that removes the object at a path of a tree.
 abbrev pub removal_at : Files → Path → Step
-removal_at files path = removal (option_map_or is_directory (kind_of (places files path)) false) path
+removal_at files path = removal (is_directory_at (places files) path) path
 
 -- How many objects are below a path.
 abbrev pub count_below : Files → Path → ℕ

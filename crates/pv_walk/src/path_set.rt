@@ -1,5 +1,5 @@
 //! Sets of paths that are kept in byte order.
-ghost use Rattle.std.specs.Prelude.{◌≡◌, [], ◌∷◌, reverse, true, IfSome, OnOk};
+ghost use Rattle.std.specs.Prelude.{◌≡◌, [], ◌∷◌, reverse, true, slice_get, option_map, IfSome, OnErr, OnOk};
 ghost use Rattle.std.specs.declared.cmp.Ordering.TheVariants.{Less};
 ghost use Rattle.std.specs.List.Sorted.{IsStrictlySortedBy};
 ghost use Rattle.pv_path.specs.Paths.{Path, path_cmp};
@@ -45,6 +45,7 @@ impl PathSet {
     pub(crate) fn add_first(&mut self, path: TreePath) -> Result<(), AllocError>
         requires first { (q : Path) → is_one_of self.old q ≡ true → path_cmp path q ≡ Less }
         ensures added { OnOk result (self.new ≡ path ∷ self.old) }
+        ensures kept { OnErr result (self.new ≡ self.old) }
     {
         self.paths.push(path)?;
         Ok(())
@@ -52,7 +53,8 @@ impl PathSet {
 
     /// Returns the first path, or `None` if the set is empty.
     pub(crate) fn first(&self) -> Option<&TreePath>
-        ensures { IfSome result (λ path. is_one_of self.now path.now ≡ true) }
+        ensures first { option_map (λ path. path.now) result ≡ slice_get self.now 0 }
+        ensures member { IfSome result (λ path. is_one_of self.now path.now ≡ true) }
     {
         self.paths.last()
     }

@@ -1,5 +1,5 @@
 //! Removes what is below a path.
-ghost use Rattle.std.specs.Prelude.{◌≡◌, ◌≢◌, [], ◌++◌, length, map, reverse, true, is_some, IfOk, IfSome, OnOk};
+ghost use Rattle.std.specs.Prelude.{◌≡◌, ◌≢◌, [], ◌∷◌, ◌++◌, length, map, reverse, true, is_some, IfOk, IfSome, OnOk};
 ghost use Rattle.pv_path.specs.Paths.{Path, same_path};
 ghost use Rattle.pv_steps.specs.Trees.{places, IsPresent, IsEmptyIn, IsTree};
 ghost use Rattle.pv_steps.specs.Steps.{gone};
@@ -8,7 +8,8 @@ ghost use Rattle.pv_steps.specs.Content.{Removes};
 ghost use Rattle.pv_walk.specs.Edits.{Pruned, emptied};
 ghost use Rattle.pv_steps.specs.Acting.{Acted};
 ghost use Rattle.pv_walk.specs.Removal.{is_below, is_one_of, without, count_below, removal_at, DonePart, MayHaveGone};
-ghost use Rattle.pv_walk.specs.Listing.{children_of, IsListing, AreGathered, AreRemovable};
+ghost use Rattle.pv_walk.specs.Listing.{children_of, stands_below, IsListing, AreGathered, AreRemovable};
+ghost use Rattle.pv_walk.specs.PostOrder.{AreInPostOrder, DidInPostOrder, DoesInPostOrder};
 
 use crate::known_child::is_directory_above;
 use pv_path::{TreePath, child};
@@ -39,12 +40,13 @@ fn push_children<T: Tree>(
 
 /// Returns the paths of everything below a path, each once, and each directory before what is in it.
 ///
-/// Everything below a listed directory follows it directly. Read from its end, the list has the children of a directory
-/// in byte order, and each directory after its children. The path itself is not in the list. The only error is
-/// `AllocError`.
+/// Everything below a listed directory follows it directly. Read from its end, the list is in post-order: the children
+/// of a directory are in byte order, each after everything below it. The path itself is not in the list. The only error
+/// is `AllocError`.
 pub fn below<T: Tree>(alloc: Global, tree: &T, path: &TreePath) -> Result<Vec<TreePath>, AllocError>
     ensures all { IfOk result (λ paths. IsListing (T.state tree.now) path.now paths.items) }
     ensures gathered { IfOk result (λ paths. AreGathered paths.items) }
+    ensures order { IfOk result (λ paths. AreInPostOrder (reverse paths.items)) }
     ensures tree { IsTree (T.state tree.now) }
 {
     let mut work = Vec::new(alloc);
@@ -66,6 +68,8 @@ pub(crate) fn remove<T: Tree>(tree: &mut T, path: TreePath, now: u64) -> Result<
         (places (T.state tree.new) ≡ gone now path (places (T.state tree.old))) }
     ensures acted { Acted T.Tree (MayHaveGone now path (T.state tree.old))
         (Removes (same_path path)) 1 now tree.old tree.new result }
+    ensures order { DonePart (removal_at (T.state tree.old) path ∷ []) (T.steps tree.old) (T.steps tree.new) }
+    ensures whole { OnOk result (T.steps tree.new ≡ T.steps tree.old ++ removal_at (T.state tree.old) path ∷ []) }
 {
     let step = removal(tree, path);
     try_step(tree, step, now)
@@ -130,12 +134,15 @@ pub fn remove_all<T: Tree>(
         (Removes (is_one_of paths.items)) (length paths.items) now tree.old tree.new result }
     ensures order { DonePart (map (removal_at (T.state tree.old)) (reverse paths.items))
         (T.steps tree.old) (T.steps tree.new) }
+    ensures whole { OnOk result
+        (T.steps tree.new ≡ T.steps tree.old ++ map (removal_at (T.state tree.old)) (reverse paths.items)) }
 {
     let steps = removals(alloc, tree, paths)?;
     try_all(tree, steps, now)
 }
 
-/// Removes everything below a path, each directory after what is in it.
+/// Removes everything below a path, in post-order: the children of a directory in byte order, each after everything
+/// below it.
 ///
 /// The call does nothing if the path is absent or is not a directory. `now` is in microseconds since 1970-01-01 UTC.
 /// The errors are those of a step: `Failed` or `Memory`. After an error some of the objects may be removed.
@@ -150,6 +157,10 @@ pub fn remove_below<T: Tree>(
     ensures acted { Acted T.Tree (Pruned (is_below path.now) (T.state tree.old))
         (Removes (is_below path.now))
         (count_below (T.state tree.old) path.now) now tree.old tree.new result }
+    ensures order { DoesInPostOrder (stands_below (T.state tree.old) path.now) (removal_at (T.state tree.old))
+        (T.steps tree.old) (T.steps tree.new) }
+    ensures whole { OnOk result (DidInPostOrder (stands_below (T.state tree.old) path.now)
+        (removal_at (T.state tree.old)) (T.steps tree.old) (T.steps tree.new)) }
 {
     let paths = below(alloc, tree, path)?;
     remove_all(alloc, tree, paths, now)

@@ -7,6 +7,9 @@ ghost use Rattle.pv_steps.specs.Trees.{places};
 ghost use Rattle.pv_steps.specs.Content.{Removes};
 ghost use Rattle.pv_walk.specs.Edits.{Pruned, taken, all_taken, count_at};
 ghost use Rattle.pv_steps.specs.Acting.{Acted};
+ghost use Rattle.pv_walk.specs.Removal.{removal_at};
+ghost use Rattle.pv_walk.specs.Listing.{stands_at};
+ghost use Rattle.pv_walk.specs.PostOrder.{DidInPostOrder, DoesInPostOrder, TakesInTurn};
 ghost use Rattle.pv_walk.specs.Staging.{staging_names, is_under_any, count_at_all, can_stage};
 
 use crate::remove::{remove, remove_below};
@@ -28,6 +31,10 @@ pub(crate) fn take_away<T: Tree>(
     ensures acted { Acted T.Tree (Pruned (is_prefix path.now) (T.state tree.old))
         (Removes (is_prefix path.now))
         (count_at (T.state tree.old) path.now) now tree.old tree.new result }
+    ensures order { DoesInPostOrder (stands_at (T.state tree.old) path.now) (removal_at (T.state tree.old))
+        (T.steps tree.old) (T.steps tree.new) }
+    ensures whole { OnOk result (DidInPostOrder (stands_at (T.state tree.old) path.now)
+        (removal_at (T.state tree.old)) (T.steps tree.old) (T.steps tree.new)) }
 {
     if !is_present(tree, path) {
         return Ok(());
@@ -50,6 +57,10 @@ fn sweep_place<T: Tree>(
     ensures acted { Acted T.Tree (Pruned (is_prefix (staging_of place.now)) (T.state tree.old))
         (Removes (is_prefix (staging_of place.now)))
         (count_at (T.state tree.old) (staging_of place.now)) now tree.old tree.new result }
+    ensures order { DoesInPostOrder (stands_at (T.state tree.old) (staging_of place.now))
+        (removal_at (T.state tree.old)) (T.steps tree.old) (T.steps tree.new) }
+    ensures whole { OnOk result (DidInPostOrder (stands_at (T.state tree.old) (staging_of place.now))
+        (removal_at (T.state tree.old)) (T.steps tree.old) (T.steps tree.new)) }
 {
     let stage = staging(alloc, place)?;
     take_away(alloc, tree, &stage, now)
@@ -91,6 +102,7 @@ fn sweep_each<T: Tree>(
     ensures acted { Acted T.Tree (Pruned (is_under_any (staging_names path.now)) (T.state tree.old))
         (Removes (is_under_any (staging_names path.now)))
         (count_at_all (T.state tree.old) (staging_names path.now)) now tree.old tree.new result }
+    ensures order { TakesInTurn (T.state tree.old) (staging_names path.now) (T.steps tree.old) (T.steps tree.new) }
 {
     let mut place = TreePath::root(alloc);
     for name in path.names() {
@@ -103,7 +115,9 @@ fn sweep_each<T: Tree>(
 /// Removes what an earlier run has staged along a path: the objects at the staging names of the path and of each
 /// path above it.
 ///
-/// Each is removed with everything below it. For example, for `/run/app` these are `/.#tf-run` and `/run/.#tf-app`.
+/// Each is removed with everything below it, one after the other from the root on. Each is removed in post-order: the
+/// children of a directory in byte order, each after everything below it. For example, for `/run/app` first
+/// `/.#tf-run` goes, and then `/run/.#tf-app`.
 /// Each name of the path must have at most 250 bytes. `now` is in microseconds since 1970-01-01 UTC.
 ///
 /// The errors are those of a step: `Failed` or `Memory`. After an error some of the objects may be removed.
@@ -121,6 +135,7 @@ pub fn sweep<T: Tree>(
     ensures acted { Acted T.Tree (Pruned (is_under_any (staging_names path.now)) (T.state tree.old))
         (Removes (is_under_any (staging_names path.now)))
         (count_at_all (T.state tree.old) (staging_names path.now)) now tree.old tree.new result }
+    ensures order { TakesInTurn (T.state tree.old) (staging_names path.now) (T.steps tree.old) (T.steps tree.new) }
 {
     // Along most paths nothing is staged. One descent from the root shows that.
     if !has_staged(alloc, tree, path)? {

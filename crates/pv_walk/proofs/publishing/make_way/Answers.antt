@@ -1,4 +1,4 @@
-use Rattle.std.proofs.Common.{arith, true, false, ◌≡◌, ◌≢◌, ℕ, sym, ap, subst, ◌∙◌, refl, [], is_some, Result}
+use Rattle.std.proofs.Common.{arith, Bool, IsTrue, ◌↔◌, true, false, ◌≡◌, ◌≢◌, ℕ, sym, ap, subst, ◌∙◌, refl, [], is_some, Result}
 use Rattle.pv_path.specs.Paths.{Path, is_prefix, staging_of}
 use Rattle.pv_steps.specs.declared.node.Kind.TheVariants.{Directory}
 use Rattle.pv_steps.specs.Trees.{Files, Places, places, IsTree, IsPresent, IsKind}
@@ -10,8 +10,11 @@ use Rattle.pv_steps.proofs.ContentLaws.{removes-wider}
 use Rattle.pv_steps.specs.Acting.{Acted, refused}
 use Rattle.pv_steps.proofs.ActingLaws.{Moves, well, acted_none, acted_weaken}
 use Rattle.pv_walk.specs.Edits.{Pruned, taken, emptied, count_at}
+use Rattle.pv_walk.specs.Listing.{stands_at, stands_below}
+use Rattle.pv_walk.specs.PostOrder.{must_go, DoesInPostOrder}
+use Rattle.pv_walk.proofs.PostOrderLaws.{did_nothing, did_same, does_same, directory_test, must_go_is, must_go_none}
 use Rattle.pv_walk.proofs.PublishLaws.{IsCleared, cleared-emptied, cleared-taken, moved_same, stage_same, yields_emptied, yields_taken}
-use Rattle.pv_walk.specs.Removal.{is_below, count_below, Clearing}
+use Rattle.pv_walk.specs.Removal.{is_below, is_directory_at, count_below, removal_at, Clearing}
 use Rattle.pv_walk.proofs.ReplacingLaws.{clearing_none, clearing_below, clearing_taken}
 use Rattle.pv_walk.proofs.SweepLaws.{below_prefix, count_below-le}
 use Rattle.pv_walk.proofs.publishing.make_way.Goals as goal
@@ -153,3 +156,80 @@ returns-in-false-false-clause-same g c = refl
 
 pub returns-in-false-false-clause-staged : goal.returns-in-false-false-clause-staged
 returns-in-false-false-clause-staged g c = c.requires.staged
+
+-- what a look at the staging name has answered
+staged_test : (t : Files) (stage path : Path) → stage ≡ staging_of path → (b : Bool) → IsTrue b ↔ IsKind Directory t stage → b ≡ is_directory_at (places t) (staging_of path)
+staged_test t stage path is b test = directory_test t stage b test ∙ ap (is_directory_at (places t)) is
+
+pub returns-then-not-is_present-clause-order : goal.returns-then-not-is_present-clause-order
+returns-then-not-is_present-clause-order g c = DoesInPostOrder.nothing refl
+
+pub returns-then-not-is_present-clause-whole : goal.returns-then-not-is_present-clause-whole
+returns-then-not-is_present-clause-whole g c =
+    let t = g.T.Tree.state c.args.tree.now in
+    did_nothing (must_go t c.args.path.now) (removal_at t) (g.T.Tree.steps c.args.tree.now)
+    (must_go_none t c.args.path.now c.is_present.ensures.tree (sym c.is_present.ensures.present ∙ c.if-not-is_present.true))
+
+pub returns-in-false-false-clause-order : goal.returns-in-false-false-clause-order
+returns-in-false-false-clause-order g c = DoesInPostOrder.nothing refl
+
+pub returns-in-false-false-clause-whole : goal.returns-in-false-false-clause-whole
+returns-in-false-false-clause-whole g c =
+    let t = g.T.Tree.state c.args.tree.now in
+    let path = c.args.path.now in
+    did_nothing (must_go t path) (removal_at t) (g.T.Tree.steps c.args.tree.now)
+    (must_go_is t path false false (staged_test t c.args.stage.now path c.requires.stage false c.in-false-false.ensures.kind) (directory_test t path false c.in-false-false.ensures'.kind))
+
+pub returns-in-true-true-clause-order : goal.returns-in-true-true-clause-order
+returns-in-true-true-clause-order g c =
+    let t = g.T.Tree.state c.args.tree.now in
+    let path = c.args.path.now in
+    does_same (stands_below t path) (must_go t path)
+    (must_go_is t path true true (staged_test t c.args.stage.now path c.requires.stage true c.in-true-true.ensures.kind) (directory_test t path true c.in-true-true.ensures'.kind))
+    (removal_at t) (g.T.Tree.steps c.args.tree.now) (g.T.Tree.steps c.remove_below.new.tree) c.remove_below.ensures.order
+
+pub returns-in-true-true-clause-whole : goal.returns-in-true-true-clause-whole
+returns-in-true-true-clause-whole g c =
+    let t = g.T.Tree.state c.args.tree.now in
+    let path = c.args.path.now in
+    on_ok c.remove_below.result
+    (did_same (stands_below t path) (must_go t path)
+    (must_go_is t path true true (staged_test t c.args.stage.now path c.requires.stage true c.in-true-true.ensures.kind) (directory_test t path true c.in-true-true.ensures'.kind))
+    (removal_at t) (g.T.Tree.steps c.args.tree.now) (g.T.Tree.steps c.remove_below.new.tree))
+    c.remove_below.ensures.whole
+
+pub returns-in-true-false-clause-order : goal.returns-in-true-false-clause-order
+returns-in-true-false-clause-order g c =
+    let t = g.T.Tree.state c.args.tree.now in
+    let path = c.args.path.now in
+    does_same (stands_at t path) (must_go t path)
+    (must_go_is t path true false (staged_test t c.args.stage.now path c.requires.stage true c.in-true-false.ensures.kind) (directory_test t path false c.in-true-false.ensures'.kind))
+    (removal_at t) (g.T.Tree.steps c.args.tree.now) (g.T.Tree.steps c.take_away.new.tree) c.take_away.ensures.order
+
+pub returns-in-true-false-clause-whole : goal.returns-in-true-false-clause-whole
+returns-in-true-false-clause-whole g c =
+    let t = g.T.Tree.state c.args.tree.now in
+    let path = c.args.path.now in
+    on_ok c.take_away.result
+    (did_same (stands_at t path) (must_go t path)
+    (must_go_is t path true false (staged_test t c.args.stage.now path c.requires.stage true c.in-true-false.ensures.kind) (directory_test t path false c.in-true-false.ensures'.kind))
+    (removal_at t) (g.T.Tree.steps c.args.tree.now) (g.T.Tree.steps c.take_away.new.tree))
+    c.take_away.ensures.whole
+
+pub returns-in-false-true-clause-order : goal.returns-in-false-true-clause-order
+returns-in-false-true-clause-order g c =
+    let t = g.T.Tree.state c.args.tree.now in
+    let path = c.args.path.now in
+    does_same (stands_at t path) (must_go t path)
+    (must_go_is t path false true (staged_test t c.args.stage.now path c.requires.stage false c.in-false-true.ensures.kind) (directory_test t path true c.in-false-true.ensures'.kind))
+    (removal_at t) (g.T.Tree.steps c.args.tree.now) (g.T.Tree.steps c.take_away-in-false-true.new.tree) c.take_away-in-false-true.ensures.order
+
+pub returns-in-false-true-clause-whole : goal.returns-in-false-true-clause-whole
+returns-in-false-true-clause-whole g c =
+    let t = g.T.Tree.state c.args.tree.now in
+    let path = c.args.path.now in
+    on_ok c.take_away-in-false-true.result
+    (did_same (stands_at t path) (must_go t path)
+    (must_go_is t path false true (staged_test t c.args.stage.now path c.requires.stage false c.in-false-true.ensures.kind) (directory_test t path true c.in-false-true.ensures'.kind))
+    (removal_at t) (g.T.Tree.steps c.args.tree.now) (g.T.Tree.steps c.take_away-in-false-true.new.tree))
+    c.take_away-in-false-true.ensures.whole

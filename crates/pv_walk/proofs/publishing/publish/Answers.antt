@@ -1,8 +1,9 @@
-use Rattle.std.proofs.Common.{◌+◌, inl}
+use Rattle.std.proofs.Common.{◌+◌, inl, refl}
 use Rattle.pv_steps.proofs.ActingLaws.{Moves, no_memory, acted_none}
 use Rattle.pv_walk.specs.Edits.{count_at}
 use Rattle.pv_walk.specs.Staging.{IsPublishing}
 use Rattle.pv_walk.specs.Removal.{Publishing}
+use Rattle.pv_walk.specs.PostOrder.{DoesInPostOrder, PublishesInOrder}
 use Rattle.pv_walk.proofs.ReplacingLaws.{clearing_none}
 use Rattle.pv_walk.proofs.SweepLaws.{short_name}
 use Rattle.pv_walk.proofs.publishing.publish.Goals as goal
@@ -17,3 +18,6 @@ returns-in_err-stage-clause-acted g c =
     let path = c.args.path.now in
     acted_none g.T.Tree moves (Publishing c.args.now path t) (IsPublishing path) (1 + count_at t path) c.args.now c.args.tree.now
     c.from_residual.result (no_memory c.from_residual.result c.from_residual.ensures.1) (inl (clearing_none path t))
+
+pub returns-in_err-stage-clause-order : goal.returns-in_err-stage-clause-order
+returns-in_err-stage-clause-order g c = PublishesInOrder.clears (DoesInPostOrder.nothing refl)

@@ -1,7 +1,7 @@
-use Rattle.std.proofs.Common.{◌≡◌, ◌≢◌, ℕ, ◌+◌, ◌<◌, ◌≤◌, ◌^◌, sym, ap, subst, ◌∙◌, inl, inr, [], option_map, Result, Ok, arith}
+use Rattle.std.proofs.Common.{◌≡◌, ◌≢◌, ℕ, ◌+◌, ◌<◌, ◌≤◌, ◌^◌, sym, ap, subst, ◌∙◌, inl, inr, ◌⊎◌, List, [], ◌∷◌, ◌++◌, option_map, Result, Ok, arith}
 use Rattle.pv_path.specs.Paths.{Path, is_prefix, staging_of}
 use Rattle.pv_steps.specs.declared.step.Step.{Step}
-use Rattle.pv_steps.specs.declared.step.Step.TheVariants.{Unlink, RemoveDir}
+use Rattle.pv_steps.specs.declared.step.Step.TheVariants.{Unlink, RemoveDir, Rename}
 use Rattle.pv_steps.specs.Objects.{object_state}
 use Rattle.pv_steps.specs.Trees.{Files, Places, places, IsTree, IsPresent}
 use Rattle.pv_steps.specs.Steps.{Movable, Yields, moved}
@@ -13,6 +13,8 @@ use Rattle.pv_walk.specs.Edits.{count_at}
 use Rattle.pv_steps.specs.Content.{Removes}
 use Rattle.pv_walk.specs.Staging.{IsPublishing}
 use Rattle.pv_walk.specs.Removal.{Clearing, Publishing, MayHaveMoved}
+use Rattle.pv_walk.specs.PostOrder.{PublishesInOrder}
+use Rattle.pv_walk.proofs.PostOrderLaws.{publishes}
 use Rattle.pv_walk.proofs.PublishLaws.{may_move}
 use Rattle.pv_walk.proofs.Outcomes.{acted-tree}
 use Rattle.pv_walk.proofs.publishing.publish_staged.Goals as goal
@@ -75,3 +77,20 @@ returns-clause-acted g c =
 
 pub make_way-requires-clause-staged : goal.make_way-requires-clause-staged
 make_way-requires-clause-staged g c = rw c.requires.stage c.requires.staged
+
+pub returns-in_err-make_way-clause-order : goal.returns-in_err-make_way-clause-order
+returns-in_err-make_way-clause-order g c = PublishesInOrder.clears c.make_way.ensures.order
+
+pub returns-in_err-copy-clause-order : goal.returns-in_err-copy-clause-order
+returns-in_err-copy-clause-order g c = PublishesInOrder.clears c.make_way.ensures.order
+
+renamed : (stage path p : Path) (mid behind : List Step) → stage ≡ staging_of path → p ≡ path → (behind ≡ mid) ⊎ (behind ≡ mid ++ Rename stage p ∷ []) → (behind ≡ mid) ⊎ (behind ≡ mid ++ Rename (staging_of path) path ∷ [])
+renamed stage path p mid behind is same h =
+    subst (λ (r : Path). (behind ≡ mid) ⊎ (behind ≡ mid ++ Rename (staging_of path) r ∷ [])) same (subst (λ (r : Path). (behind ≡ mid) ⊎ (behind ≡ mid ++ Rename r p ∷ [])) is h)
+
+pub returns-clause-order : goal.returns-clause-order
+returns-clause-order g c =
+    let mid = g.T.Tree.steps c.make_way.new.tree in
+    let behind = g.T.Tree.steps c.rename.new.tree in
+    publishes (g.T.Tree.state c.args.tree.now) c.args.path.now (g.T.Tree.steps c.args.tree.now) mid behind c.in_ok-make_way.ensures.whole
+    (renamed _ c.args.path.now c.in_ok-copy.field-0 mid behind (c.stage.view_is ∙ c.requires.stage) c.in_ok-copy.ensures c.rename.ensures.order)

@@ -7,6 +7,7 @@ use Rattle.pv_steps.proofs.StepLaws.{at_after}
 use Rattle.pv_steps.proofs.ActingLaws.{acted_tried}
 use Rattle.pv_walk.specs.Staging.{IsPublishing}
 use Rattle.pv_walk.specs.Removal.{MayHaveMoved}
+use Rattle.pv_walk.proofs.PostOrderLaws.{tried_one}
 use Rattle.pv_walk.proofs.PublishLaws.{moved_differs}
 use Rattle.pv_walk.proofs.publishing.rename.Goals as goal
 use Rattle.pv_path.proofs.Tests.{on_ok}
@@ -29,3 +30,6 @@ returns-clause-acted g c =
       there = λ u e. inr (ap places e ∙ at);
       gives = (c.requires.stage, refl);
     })
+
+pub returns-clause-order : goal.returns-clause-order
+returns-clause-order g c = tried_one g.T.Tree (Rename c.args.stage c.args.path) c.args.now c.args.tree.now c.try_step.new.tree c.try_step.result c.try_step.ensures

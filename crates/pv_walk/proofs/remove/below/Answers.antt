@@ -2,6 +2,7 @@ use Rattle.std.proofs.Common.{◌≡◌, sym, ap, subst, ◌∙◌, [], ◌∷�
 use Rattle.std.proofs.Common.{length-append}
 use Rattle.std.proofs.lemmas.List.{append-nil, nil_from_length}
 use Rattle.pv_walk.specs.Listing.{children_of, AreGathered}
+use Rattle.pv_walk.proofs.PostOrderLaws.{Falling, falling_start, falling_next, falling_end}
 use Rattle.pv_walk.proofs.GatheredLaws.{gathered_push, gathered_start}
 use Rattle.pv_walk.proofs.ListingLaws.{Listing, listing_start, listing_next, listing_room, listing_end}
 use Rattle.pv_walk.proofs.remove.below.Goals as goal
@@ -10,7 +11,8 @@ pub loop-next-init : goal.loop-next-init
 loop-next-init g c =
     let t = g.T.Tree.state c.args.tree.now in
     let path = c.args.path.now in
-    let start : Listing t path [] (children_of t path) × AreGathered (reverse (children_of t path)) = (listing_start t path, gathered_start t path) in
+    let start : Listing t path [] (children_of t path) × AreGathered (reverse (children_of t path)) × Falling [] (children_of t path) =
+    (listing_start t path, gathered_start t path, falling_start t path) in
     rw (c.new-listed.ensures.items, c.in_ok-push_children.ensures.added, c.new-work.ensures.items) start
 
 pub loop-next-smaller : goal.loop-next-smaller
@@ -27,8 +29,8 @@ loop-next-preserved g c =
     let listed = c.loop-next.listed.items in
     let work = c.pop.new.self.items in
     let w = c.in-Some.next in
-    let next : Listing t path (listed ++ w ∷ []) (work ++ children_of t w) × AreGathered ((listed ++ w ∷ []) ++ reverse (work ++ children_of t w)) =
-    (listing_next t path listed work w here.0, gathered_push t path listed work w here.0 here.1) in
+    let next : Listing t path (listed ++ w ∷ []) (work ++ children_of t w) × AreGathered ((listed ++ w ∷ []) ++ reverse (work ++ children_of t w)) × Falling (listed ++ w ∷ []) (work ++ children_of t w) =
+    (listing_next t path listed work w here.0, gathered_push t path listed work w here.0 here.1, falling_next t w listed work here.2) in
     rw (c.in_ok-push.ensures.items, c.in_ok-push_children-2.ensures.added) next
 
 pub returns-clause-all : goal.returns-clause-all
@@ -40,3 +42,6 @@ pub returns-clause-gathered : goal.returns-clause-gathered
 returns-clause-gathered g c =
     let none : c.loop-next.work.items ≡ [] = nil_from_length c.loop-next.work.items (sym c.loop-next.work.ok.0 ∙ c.in_default.ensures.cases.0) in
     subst AreGathered (append-nil c.loop-next.listed.items) (rw none at c.loop-next.invariant.1)
+
+pub returns-clause-order : goal.returns-clause-order
+returns-clause-order g c = falling_end c.loop-next.listed.items c.loop-next.work.items c.loop-next.invariant.2

@@ -12,6 +12,7 @@ use Rattle.pv_steps.proofs.ActingLaws.{Moves, acted_none, no_memory}
 use Rattle.pv_steps.proofs.TryingLaws.{acted_all, ask_can, tried_whole}
 use Rattle.pv_walk.specs.Edits.{Pruned}
 use Rattle.pv_walk.specs.Removal.{is_one_of, removal_at}
+use Rattle.pv_walk.proofs.PostOrderLaws.{tried_all}
 use Rattle.pv_walk.proofs.SweepLaws.{pruned-none}
 use Rattle.pv_walk.proofs.TakingLaws.{all_without, removable_present, removals_ask, removals_part, steps_of}
 use Rattle.pv_walk.proofs.remove.remove_all.Goals as goal
@@ -66,4 +67,11 @@ returns-clause-order g c =
     let t = g.T.Tree.state c.args.tree.now in
     let r = c.try_all.result in
     removals_part g.T.Tree t c.args.paths.items c.args.now c.args.tree.now c.try_all.new.tree r
+    (tried g.T.Tree t c.args.paths.items c.in_ok-steps.steps.items c.args.now c.args.tree.now c.try_all.new.tree r c.in_ok-steps.ensures c.try_all.ensures)
+
+pub returns-clause-whole : goal.returns-clause-whole
+returns-clause-whole g c =
+    let t = g.T.Tree.state c.args.tree.now in
+    let r = c.try_all.result in
+    tried_all g.T.Tree t c.args.paths.items c.args.now c.args.tree.now c.try_all.new.tree r
     (tried g.T.Tree t c.args.paths.items c.in_ok-steps.steps.items c.args.now c.args.tree.now c.try_all.new.tree r c.in_ok-steps.ensures c.try_all.ensures)

@@ -11,6 +11,10 @@ use Rattle.pv_walk.specs.Edits.{Pruned, taken, all_taken, count_at}
 use Rattle.pv_walk.specs.Staging.{staging_names, is_under_any, count_at_all, can_stage}
 use Rattle.pv_walk.proofs.SweepLaws.{short_last, all_taken-more, count-more, count-le, under_any, pruned_count, length-staging_names}
 use Rattle.pv_walk.proofs.Removing.{prune_then}
+use Rattle.pv_walk.specs.Listing.{stands_at}
+use Rattle.pv_walk.specs.PostOrder.{DidInPostOrder, DoesInPostOrder}
+use Rattle.pv_walk.specs.Removal.{removal_at}
+use Rattle.pv_walk.proofs.SweepOrderLaws.{did_then, does_then, took_next, takes_next, takes_here}
 use Rattle.pv_walk.proofs.sweeping.sweep_each.Goals as goal
 
 -- the place is one name longer
@@ -82,6 +86,9 @@ loop-name-preserved g c =
     let next = next_place path c.loop-name.place c.go_down.new.place c.names-name-items.result.now i c.name-item.result c.names-name-items.ensures.value c.loop-name.invariant.place c.name-item.is c.loop-name-test.true c.in_ok-go_down.ensures in
     let lt = within path c.names-name-items.result.now i c.names-name-items.ensures.value c.loop-name-test.true in
     record {
+      took = took_next path i lt t (g.T.Tree.steps c.args.tree.now) (g.T.Tree.steps c.loop-name.tree) (g.T.Tree.steps c.sweep_place.new.tree) c.loop-name.invariant.took
+          (did_then path c.args.now t i lt (g.T.Tree.state c.loop-name.tree) c.loop-name.invariant.here (g.T.Tree.steps c.loop-name.tree) (g.T.Tree.steps c.sweep_place.new.tree)
+          (subst (λ (p : Path). DidInPostOrder (stands_at (g.T.Tree.state c.loop-name.tree) (staging_of p)) (removal_at (g.T.Tree.state c.loop-name.tree)) (g.T.Tree.steps c.loop-name.tree) (g.T.Tree.steps c.sweep_place.new.tree)) next c.in_ok-sweep_place.ensures.whole));
       place = next;
       here =
           c.in_ok-sweep_place.ensures.taken
@@ -106,3 +113,23 @@ returns-clause-acted g c =
     let path = c.args.path.now in
     let t = g.T.Tree.state c.args.tree.now in
     acted_within g.T.Tree (count_at_all t (take c.loop-name.name-index (staging_names path))) (count_at_all t (staging_names path)) (count-le path t c.loop-name.name-index) c.loop-name.invariant.acted
+
+pub returns-in_err-go_down-clause-order : goal.returns-in_err-go_down-clause-order
+returns-in_err-go_down-clause-order g c =
+    takes_here c.args.path.now c.loop-name.name-index (g.T.Tree.state c.args.tree.now) (g.T.Tree.steps c.args.tree.now) (g.T.Tree.steps c.loop-name.tree) c.loop-name.invariant.took
+
+pub returns-in_err-sweep_place-clause-order : goal.returns-in_err-sweep_place-clause-order
+returns-in_err-sweep_place-clause-order g c =
+    let path = c.args.path.now in
+    let t = g.T.Tree.state c.args.tree.now in
+    let u = g.T.Tree.state c.loop-name.tree in
+    let i = c.loop-name.name-index in
+    let next = next_place path c.loop-name.place c.go_down.new.place c.names-name-items.result.now i c.name-item.result c.names-name-items.ensures.value c.loop-name.invariant.place c.name-item.is c.loop-name-test.true c.in_ok-go_down.ensures in
+    let lt = within path c.names-name-items.result.now i c.names-name-items.ensures.value c.loop-name-test.true in
+    takes_next path i lt t (g.T.Tree.steps c.args.tree.now) (g.T.Tree.steps c.loop-name.tree) (g.T.Tree.steps c.sweep_place.new.tree) c.loop-name.invariant.took
+    (does_then path c.args.now t i lt u c.loop-name.invariant.here (g.T.Tree.steps c.loop-name.tree) (g.T.Tree.steps c.sweep_place.new.tree)
+    (subst (λ (p : Path). DoesInPostOrder (stands_at u (staging_of p)) (removal_at u) (g.T.Tree.steps c.loop-name.tree) (g.T.Tree.steps c.sweep_place.new.tree)) next c.sweep_place.ensures.order))
+
+pub returns-clause-order : goal.returns-clause-order
+returns-clause-order g c =
+    takes_here c.args.path.now c.loop-name.name-index (g.T.Tree.state c.args.tree.now) (g.T.Tree.steps c.args.tree.now) (g.T.Tree.steps c.loop-name.tree) c.loop-name.invariant.took

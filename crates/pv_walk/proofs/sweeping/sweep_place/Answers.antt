@@ -1,6 +1,7 @@
-use Rattle.std.proofs.Common.{◌≡◌, sym, ap, ◌∙◌, [], ◌∷◌, length, arith}
+use Rattle.std.proofs.Common.{◌≡◌, refl, sym, ap, ◌∙◌, [], ◌∷◌, length, arith}
 use Rattle.pv_path.specs.Paths.{Path, staging_of}
 use Rattle.pv_path.proofs.PathLaws.{length-staging_of}
+use Rattle.pv_walk.specs.PostOrder.{DoesInPostOrder}
 use Rattle.pv_walk.proofs.sweeping.sweep_place.Goals as goal
 
 no_root : (place : Path) → (place ≡ [] → ⊥) → staging_of place ≡ [] → ⊥
@@ -21,3 +22,12 @@ returns-clause-taken g c = rw c.in_ok-stage.ensures at c.take_away.ensures.taken
 
 pub returns-clause-acted : goal.returns-clause-acted
 returns-clause-acted g c = rw c.in_ok-stage.ensures at c.take_away.ensures.acted
+
+pub returns-clause-order : goal.returns-clause-order
+returns-clause-order g c = rw c.in_ok-stage.ensures at c.take_away.ensures.order
+
+pub returns-clause-whole : goal.returns-clause-whole
+returns-clause-whole g c = rw c.in_ok-stage.ensures at c.take_away.ensures.whole
+
+pub returns-in_err-stage-clause-order : goal.returns-in_err-stage-clause-order
+returns-in_err-stage-clause-order g c = DoesInPostOrder.nothing refl

@@ -7,4 +7,4 @@ use Rattle.pv_walk.proofs.whole_subtrees.first_name.Goals as goal
 pub returns : goal.returns
 returns c =
     child_has (λ (q : Path). is_one_of c.args.paths.now q ≡ true) c.args.path.now _ c.name_below.result c.name_below.ensures
-    c.in_ok-first.ensures
+    c.in_ok-first.ensures.member
