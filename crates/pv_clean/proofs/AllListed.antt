@@ -1,15 +1,22 @@
 -- Laws of a list of all that stands in a tree: each path once, and all that lies below it right after it.
-use Rattle.std.specs.Prelude.{◌≡◌, ◌≢◌, ℕ, ◌+◌, ◌≤◌, ◌<◌, Bool, true, false, cond, not, ◌&&◌, List, [], ◌∷◌, ◌++◌, length, is_some}
+use Rattle.std.specs.Prelude.{◌≡◌, ◌≢◌, ℕ, ◌+◌, ◌≤◌, ◌<◌, Bool, true, false, cond, not, ◌&&◌, List, [], ◌∷◌, ◌++◌, length, reverse, is_some}
+use Rattle.std.specs.List.{AllByRecursion}
+use Rattle.std.specs.List.Sorted.{IsStrictlySortedBy}
+use Rattle.std.specs.declared.cmp.Ordering.TheVariants.{Less}
 use Rattle.std.proofs.Common.{refl, sym, ap, subst, ◌∙◌, inl, inr, arith, length-append}
 use Rattle.std.proofs.lemmas.Bool.{and_from, and_parts}
+use Rattle.std.proofs.lemmas.List.{reverse-reverse}
 use Rattle.pv_path.specs.Paths.{Path, same_path, same_path-decides, parent_of}
 use Rattle.pv_path.proofs.PathLaws.{length-parent_of, parent_parts}
 use Rattle.pv_steps.specs.declared.node.Kind.TheVariants.{Directory}
 use Rattle.pv_steps.specs.Trees.{Files, places, IsPresent, IsTree}
 use Rattle.pv_steps.proofs.TreeLaws.{present_of_kind}
 use Rattle.pv_walk.specs.Listing.{times, is_child, AreGathered, IsGatheredBelow, IsListing, ParentsFirst}
+use Rattle.pv_walk.specs.PostOrder.{post_cmp, AreInPostOrder}
 use Rattle.pv_walk.specs.Removal.{is_below}
 use Rattle.pv_walk.proofs.CountLaws.{is_child-push, same_or_not, times-append, times-self}
+use Rattle.pv_walk.proofs.OrderLaws.{sorted-reverse}
+pub use Rattle.pv_walk.proofs.PostOrderLaws.{AreFalling}
 use Rattle.pv_walk.proofs.RemovalLaws.{below_parts, cond-true, is_below-child, zero_or_more}
 
 -- all that stands in a tree, each path once, before its children, and all below it right after it
@@ -19,6 +26,17 @@ pub record IsWhole (t : Files) (all : List Path) : Type 0 where
   pub gathered : AreGathered all
 
 -- ---- the root and a listing of what stands below it
+
+before_root : (p : Path) → is_below [] p ≡ true → post_cmp p [] ≡ Less
+before_root [] h = absurd (let no : false ≡ true = h in cc)
+before_root (name ∷ p) h = refl
+
+all_before_root : (ps : List Path) → ((q : Path) → 1 ≤ times q ps → is_below [] q ≡ true) → AllByRecursion (λ q. post_cmp q [] ≡ Less) ps
+all_before_root [] under = tt
+all_before_root (p ∷ ps) under = (
+  before_root p (under p (let self = times-self p ps in omega (arith, self))),
+  all_before_root ps (λ q some. under q (let more : times q ps ≤ times q (p ∷ ps) = omega arith in omega (arith, some, more))),
+)
 
 module _ (t : Files) (tree : IsTree t) where
   under_root : (ps : List Path) → ((q : Path) → 1 ≤ times q ps → is_below [] q ≡ true) → IsGatheredBelow [] ps
@@ -34,6 +52,15 @@ module _ (t : Files) (tree : IsTree t) where
   root false true h = refl
   root false false h = refl
 
+  module _ (listed : List Path) (l : IsListing t [] listed) where
+    under : (q : Path) → 1 ≤ times q listed → is_below [] q ≡ true
+    under q some = (and_parts (is_below [] q) (is_some (places t q)) (cond-true (is_below [] q && is_some (places t q)) (let e = l.once q in omega (arith, e, some)))).0
+
+    -- the root is the last in post-order
+    pub falling_from : AreInPostOrder (reverse listed) → AreFalling ([] ∷ listed)
+    unfolding IsStrictlySortedBy
+    falling_from up = (all_before_root listed under, subst AreFalling (reverse-reverse listed) (sorted-reverse post_cmp (reverse listed) up))
+
   pub whole_from : (listed : List Path) → IsListing t [] listed → AreGathered listed → IsWhole t ([] ∷ listed)
   whole_from listed l gathered = record {
     once = λ q.
@@ -44,7 +71,7 @@ module _ (t : Files) (tree : IsTree t) where
       l.order,
     );
     gathered = (
-      under_root listed (λ q some. (and_parts (is_below [] q) (is_some (places t q)) (cond-true (is_below [] q && is_some (places t q)) (let e = l.once q in omega (arith, e, some)))).0),
+      under_root listed (under listed l),
       gathered,
     );
   }

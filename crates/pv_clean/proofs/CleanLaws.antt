@@ -1,10 +1,11 @@
 -- Laws of the clean phase: what it leaves, the steps it takes, and what one that was cut short has done.
-use Rattle.std.specs.Prelude.{◌≡◌, ℕ, Bool, List, [], ◌++◌, length, take, drop, Result, Ok, Err, OnOk}
-use Rattle.std.proofs.Common.{sym, ap, ◌∙◌}
-use Rattle.std.proofs.lemmas.List.{append-nil}
+use Rattle.std.specs.Prelude.{◌≡◌, ℕ, Bool, cond, List, [], ◌∷◌, ◌++◌, length, map, reverse, take, drop, Result, Ok, Err, OnOk}
+use Rattle.std.proofs.Common.{refl, sym, ap, ◌∙◌, arith}
+use Rattle.std.proofs.lemmas.List.{append-nil, take_at}
 use Rattle.std.proofs.Math.Seq.{drop-append_seam}
 use Rattle.pv_lines.specs.declared.line.Line.{Line}
 use Rattle.pv_path.specs.Paths.{Path}
+use Rattle.pv_path.proofs.Tests.{same_tests}
 use Rattle.pv_steps.specs.declared.step.Step.{Step}
 use Rattle.pv_steps.specs.declared.tree.Tree.{Ghosts}
 use Rattle.pv_steps.specs.declared.tree.TreeFault.{TreeFault}
@@ -12,10 +13,16 @@ use Rattle.pv_steps.specs.Runs.{Ran, after_all}
 use Rattle.pv_steps.specs.Trees.{Files}
 use Rattle.pv_steps.specs.Trying.{TriedAll}
 use Rattle.pv_walk.specs.Edits.{Pruned}
+use Rattle.pv_walk.specs.PostOrder.{DoesInPostOrder}
+use Rattle.pv_walk.specs.Removal.{is_one_of}
 use Rattle.pv_walk.specs.Whole.{goes_whole}
+use Rattle.pv_walk.proofs.OrderLaws.{map_reverse}
+use Rattle.pv_walk.proofs.PathSetLaws.{one_of-reverse}
+use Rattle.pv_walk.proofs.RemovalLaws.{cond-true}
+use Rattle.pv_walk.proofs.TakingLaws.{one_of-counted, one_of-some}
 use Rattle.pv_table.specs.Cleaned.{is_aged, may_go}
 use Rattle.pv_table.proofs.GoingLaws.{goes_again, told_prefix}
-use Rattle.pv_clean.specs.Cleaning.{TakesOnly}
+use Rattle.pv_clean.specs.Cleaning.{clean_step, is_due, ArePlanned, TakesOnly}
 use Rattle.pv_clean.proofs.AgeLaws.{goes_aged, took}
 
 -- what is aged goes whole with what is aged
@@ -38,3 +45,21 @@ tried_told tree steps now a b r t = by r t.whole
         ap (drop (length (tree.steps a))) t.recorded ∙ drop-append_seam (tree.steps a) t.done
         ∙ sym (append-nil t.done) ∙ sym (ap (λ (l : List Step). t.done ++ l) none) ∙ t.parts
     by (Err e) h = h
+
+-- ---- the order
+
+-- the paths of a plan are those at which something is due
+planned_due : (goes : Path → Bool) (t : Files) (steps : List Step) (plan : ArePlanned goes t steps) (q : Path) → is_one_of plan.paths q ≡ is_due goes t q
+planned_due goes t steps plan q = same_tests (is_one_of plan.paths q) (is_due goes t q)
+    (λ h. cond-true (is_due goes t q) (let some = one_of-some plan.paths q h in let once = plan.once q in omega (arith, some, once)))
+    (λ h. one_of-counted plan.paths q (let one : cond {A = ℕ} (is_due goes t q) 1 0 ≡ 1 = ap (λ b. cond b 1 0) h in let once = plan.once q in omega (arith, one, once)))
+
+-- the steps of a plan that were tried from its end are done in post-order
+pub tried_in_order : {S : Type 0} (tree : Ghosts S) (goes : Path → Bool) (now : ℕ) (steps : List Step) (a b : S) (r : Result (Unit {0}) TreeFault)
+    → ArePlanned goes (tree.state a) steps → TriedAll tree (reverse steps) now a b r
+    → DoesInPostOrder (is_due goes (tree.state a)) (clean_step goes (tree.state a)) (tree.steps a) (tree.steps b)
+tried_in_order tree goes now steps a b r plan t =
+    let step = clean_step goes (tree.state a) in
+    let all : t.done ++ t.left ≡ map step (reverse plan.paths) = t.parts ∙ ap (λ (ss : List Step). reverse ss) plan.are ∙ sym (map_reverse step plan.paths) in
+    DoesInPostOrder.first (reverse plan.paths) (λ q. one_of-reverse plan.paths q ∙ planned_due goes (tree.state a) steps plan q) plan.in_post_order
+    (length t.done, t.recorded ∙ ap (λ (ss : List Step). tree.steps a ++ ss) (sym (take_at t.done t.left (length t.done) refl) ∙ ap (take (length t.done)) all))

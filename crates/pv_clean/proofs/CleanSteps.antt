@@ -5,6 +5,7 @@ use Rattle.std.specs.FinMap as fin
 use Rattle.std.specs.List.{list_any}
 use Rattle.std.specs.Option.{option_map_or}
 use Rattle.std.proofs.lemmas.List.{length-map}
+use Rattle.std.proofs.lemmas.List.Kept.{IsStrictlySortedBy-filter}
 use Rattle.std.proofs.lemmas.Bool.{cases_Bool, and_parts}
 use Rattle.pv_path.specs.Paths.{Path, same_path, parent_of}
 use Rattle.pv_path.proofs.PathLaws.{is_prefix-append, path_ends, parent_of-push, same_path-refl}
@@ -21,11 +22,13 @@ use Rattle.pv_steps.proofs.StepLaws.{at_after, same_files}
 use Rattle.pv_steps.proofs.NameLaws.{child_name-push}
 use Rattle.pv_walk.specs.Edits.{Pruned}
 use Rattle.pv_walk.specs.Listing.{times, is_child, ParentsFirst}
+use Rattle.pv_walk.specs.PostOrder.{post_cmp}
 use Rattle.pv_walk.specs.Removal.{is_one_of, loses_child, removal, removal_at}
 use Rattle.pv_walk.proofs.CountLaws.{is_child-push, length-times, same_or_not, taken_out, times-append, times-filter, times-keys, times-self}
 use Rattle.pv_walk.proofs.RemovalLaws.{cond-true, kept-object_state, kept-kind, kept-present, modified_kept, no_same, not_first, zero_or_more, gone-here, gone-none, gone-other, gone-parent, IsKept}
 use Rattle.pv_walk.proofs.GatheredLaws.{gathered_filter}
 use Rattle.pv_walk.proofs.ListingLaws.{cond-le}
+use Rattle.pv_walk.proofs.OrderLaws.{sorted-reverse}
 use Rattle.pv_walk.proofs.Removing.{after_removal, removal_asks}
 use Rattle.pv_walk.specs.Whole.{goes_whole}
 use Rattle.pv_walk.proofs.FindingLaws.{children_pass}
@@ -33,7 +36,7 @@ use Rattle.pv_walk.proofs.WholeLaws.{all_at-each, goes_parts}
 use Rattle.pv_table.specs.Removed.{files_without}
 use Rattle.pv_table.proofs.GoingLaws.{places-without}
 use Rattle.pv_clean.specs.Cleaning.{clean_step, giving_back, is_task, most_steps, stays_and_loses, ArePlanned, GoAfter, IsCleanStep}
-use Rattle.pv_clean.proofs.AllListed.{IsWhole}
+use Rattle.pv_clean.proofs.AllListed.{AreFalling, IsWhole}
 use Rattle.pv_path.proofs.Tests.{true_not_false, none_of}
 
 -- ---- one path
@@ -448,13 +451,14 @@ module _ (goes : Path → Bool) (t : Files) where
       by false rest = rest
 
   -- the steps at a list of all that stands in the tree
-  pub planned_from : (all : List Path) (steps : List Step) → IsWhole t all → steps ≡ map (clean_step goes t) (filter (is_task goes t) all) → ArePlanned goes t steps
-  planned_from all steps w are = record {
+  pub planned_from : (all : List Path) (steps : List Step) → IsWhole t all → AreFalling all → steps ≡ map (clean_step goes t) (filter (is_task goes t) all) → ArePlanned goes t steps
+  planned_from all steps w falling are = record {
     paths = filter (is_task goes t) all;
     are = are;
     once = λ q. times-filter (is_task goes t) q all ∙ ap (λ (n : ℕ). cond (is_task goes t q) n 0) (w.once q) ∙ by (is_some (places t q)) (is_task goes t q);
     gathered = gathered_filter (is_task goes t) all w.gathered;
     order = kept_order all w.order;
+    in_post_order = sorted-reverse (λ p q. post_cmp q p) (filter (is_task goes t) all) (IsStrictlySortedBy-filter (λ p q. post_cmp q p) (is_task goes t) all falling);
   }
     where
       by : (i f : Bool) → ◌≡◌ {A = ℕ} (cond f (cond i 1 0) 0) (cond (i && f) 1 0)

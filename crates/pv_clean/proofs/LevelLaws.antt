@@ -21,7 +21,7 @@ use Rattle.pv_table.proofs.ChildrenLaws.{children_all}
 use Rattle.pv_clean.specs.declared.aging.Judged.{Judged}
 use Rattle.pv_clean.specs.Cleaning.{clean_step, giving_back, is_task, ArePlanned}
 use Rattle.pv_clean.specs.Judging.{judged_at, noted, AreJudged}
-use Rattle.pv_clean.proofs.AllListed.{IsWhole, behind_one, child_behind, child_of_parent, gathered_at, gathered_behind, longer, parent_before, there, whole_from}
+use Rattle.pv_clean.proofs.AllListed.{AreFalling, IsWhole, behind_one, child_behind, child_of_parent, falling_from, gathered_at, gathered_behind, longer, parent_before, there, whole_from}
 use Rattle.pv_clean.proofs.CleanSteps.{child_lost, planned_from}
 use Rattle.pv_clean.proofs.SentenceLaws.{aged_by}
 
@@ -209,11 +209,11 @@ module _ (lines : List Line) (now : ℕ) (t : Files) (all : List Path) (w : IsWh
     told = ap reverse none;
   }
 
-  pub planning_end : (left : List Judged) (staying going : List Bool) (steps : List Step) → left ≡ [] → Planning lines now t all left staying going steps → ArePlanned (is_aged lines now t) t (reverse steps)
-  planning_end left staying going steps empty plan =
+  pub planning_end : (left : List Judged) (staying going : List Bool) (steps : List Step) → left ≡ [] → AreFalling all → Planning lines now t all left staying going steps → ArePlanned (is_aged lines now t) t (reverse steps)
+  planning_end left staying going steps empty falling plan =
       let none : plan.front ≡ [] = no_map (judged_at lines now t) plan.front (sym plan.left_is ∙ empty) in
       let same : all ≡ plan.done = plan.parts ∙ ap (λ (ps : List Path). ps ++ plan.done) none in
-      planned_from (is_aged lines now t) t all (reverse steps) w (plan.told ∙ ap (λ (ps : List Path). map (clean_step (is_aged lines now t) t) (filter (is_task (is_aged lines now t) t) ps)) (sym same))
+      planned_from (is_aged lines now t) t all (reverse steps) w falling (plan.told ∙ ap (λ (ps : List Path). map (clean_step (is_aged lines now t) t) (filter (is_task (is_aged lines now t) t) ps)) (sym same))
 
   module _ (tree : IsTree t) (left rest : List Judged) (next : Judged) (is : left ≡ rest ++ next ∷ []) (staying going : List Bool) (steps : List Step) (plan : Planning lines now t all left staying going steps) where
     abbrev aged : Path → Bool
@@ -277,13 +277,19 @@ module _ (lines : List Line) (now : ℕ) (t : Files) (all : List Path) (w : IsWh
 pub record PlanningOf (lines : List Line) (now : ℕ) (t : Files) (judged left : List Judged) (staying going : List Bool) (steps : List Step) : Type 0 where
   pub listed : List Path
   pub whole : IsWhole t ([] ∷ listed)
+  pub falling : AreFalling ([] ∷ listed)
   pub planning : Planning lines now t ([] ∷ listed) left staying going steps
 
 pub plan_start : (lines : List Line) (now : ℕ) (t : Files) (judged : List Judged) (staying going : List Bool) (steps : List Step) → IsTree t → staying ≡ [] → going ≡ [] → steps ≡ [] → AreJudged lines now t judged
     → PlanningOf lines now t judged judged staying going steps
 plan_start lines now t judged staying going steps tree no_stay no_go none are =
     let whole = whole_from t tree are.listed are.listing are.gathered in
-    record { listed = are.listed; whole = whole; planning = planning_start lines now t ([] ∷ are.listed) whole judged staying going steps are.are no_stay no_go none }
+    record {
+      listed = are.listed;
+      whole = whole;
+      falling = falling_from t tree are.listed are.listing are.in_post_order;
+      planning = planning_start lines now t ([] ∷ are.listed) whole judged staying going steps are.are no_stay no_go none;
+    }
 
 -- ---- one number is noted
 

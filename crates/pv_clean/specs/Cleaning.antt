@@ -1,6 +1,6 @@
 -- Cleaning step by step: which directories get their timestamps back, which steps a clean takes, and what a stopped
 -- one has done (tmpfiles.d(5), "Age"; utimensat(2)). Here `goes` tells which paths are removed.
-use Rattle.std.specs.Prelude.{◌≡◌, ◌≢◌, ◌⊎◌, ℕ, ◌+◌, ◌≤◌, Bool, true, cond, not, ◌&&◌, ◌||◌, List, [], ◌∷◌, map, take, Some, is_some, option_map, if◌then◌else◌, ⊤}
+use Rattle.std.specs.Prelude.{◌≡◌, ◌≢◌, ◌⊎◌, ℕ, ◌+◌, ◌≤◌, Bool, true, cond, not, ◌&&◌, ◌||◌, List, [], ◌∷◌, map, reverse, take, Some, is_some, option_map, if◌then◌else◌, ⊤}
 use Rattle.std.specs.Option.{option_map_or}
 use Rattle.pv_path.specs.Paths.{Path, is_prefix}
 use Rattle.pv_steps.specs.declared.object.Object.{Object}
@@ -10,6 +10,7 @@ use Rattle.pv_steps.specs.Runs.{after_all}
 use Rattle.pv_steps.specs.Same.{object_states}
 use Rattle.pv_steps.specs.Trees.{Files, places, IsAbsentIn, IsPresent}
 use Rattle.pv_walk.specs.Listing.{times, is_child, AreGathered}
+use Rattle.pv_walk.specs.PostOrder.{AreInPostOrder}
 use Rattle.pv_walk.specs.Removal.{loses_child, removal_at}
 use Rattle.pv_walk.specs.Whole.{count_of}
 
@@ -20,6 +21,10 @@ stays_and_loses goes t q = not (goes q) && loses_child goes t q
 -- A clean has something to do at a path: it is removed, or it loses an entry.
 abbrev pub is_task : (Path → Bool) → Files → Path → Bool
 is_task goes t q = goes q || loses_child goes t q
+
+-- A clean does a step at a path: there is an object at it, and it is removed or loses an entry.
+abbrev pub is_due : (Path → Bool) → Files → Path → Bool
+is_due goes t q = is_some (places t q) && is_task goes t q
 
 -- The step that gives a path the access and modification timestamps that it has in the tree t. If there is no object,
 -- they are 0.
@@ -38,13 +43,14 @@ GoAfter goes t (p ∷ ps) = ((q : Path) → is_child p q ≡ true → IsPresent 
 
 -- The steps of a clean, from the last one to the first. There is one step for each path that is removed or loses an
 -- entry. In this list the entries of a path that are removed come after it, and everything below a directory is
--- together.
+-- together. Read from its end, the list is in post-order.
 pub record ArePlanned (goes : Path → Bool) (t : Files) (steps : List Step) : Type 0 where
   pub paths : List Path
   pub are : steps ≡ map (clean_step goes t) paths
-  pub once : (q : Path) → times q paths ≡ cond (is_some (places t q) && is_task goes t q) 1 0
+  pub once : (q : Path) → times q paths ≡ cond (is_due goes t q) 1 0
   pub order : GoAfter goes t paths
   pub gathered : AreGathered paths
+  pub in_post_order : AreInPostOrder (reverse paths)
 
 -- A step of a clean. It removes a path that goes. Or it gives a directory that stays and loses an entry the access
 -- and modification timestamps that it has in the tree t.

@@ -43,7 +43,8 @@ pub(crate) struct Judged {
 /// Judges all objects of a tree by their age (tmpfiles.d(5), "Age", x and X). The list has each directory before what
 /// is in it.
 ///
-/// Read from its end, the list has the children of a directory in byte order, each with everything below it first.
+/// Read from its end, the list is in post-order: the children of a directory are in byte order, each after everything
+/// below it.
 pub(crate) fn all_judged<T: Tree>(
     alloc: Global,
     tree: &T,

@@ -2,8 +2,9 @@
 ghost use Rattle.std.specs.Prelude.{◌≡◌, length, OnOk};
 ghost use Rattle.pv_steps.specs.Acting.{Acted, steps_done};
 ghost use Rattle.pv_walk.specs.Edits.{Pruned};
+ghost use Rattle.pv_walk.specs.PostOrder.{DoesInPostOrder};
 ghost use Rattle.pv_table.specs.Cleaned.{cleaned, is_aged};
-ghost use Rattle.pv_clean.specs.Cleaning.{most_steps, IsCleanStep, IsCleanedInTurn, TakesOnly};
+ghost use Rattle.pv_clean.specs.Cleaning.{clean_step, is_due, most_steps, IsCleanStep, IsCleanedInTurn, TakesOnly};
 
 use crate::aging::all_judged;
 use crate::steps::clean_steps;
@@ -19,7 +20,8 @@ use std::alloc::Global;
 /// phase. The root is never removed.
 ///
 /// A directory that stays and lost a child gets its access and modification times back after its children are done
-/// (utimensat(2)). Each directory comes after its content.
+/// (utimensat(2)). The steps are in post-order: the steps of the children of a directory are in byte order, each after
+/// the steps of everything below it. The step of the directory comes last.
 ///
 /// - `table` has the active lines.
 /// - `now` is the time of the run, in microseconds since 1970-01-01 UTC.
@@ -52,6 +54,11 @@ pub fn clean_run<T: Tree>(
         (IsCleanStep (is_aged table.now now (T.state tree.old)) (T.state tree.old))
         (most_steps (is_aged table.now now (T.state tree.old)) (T.state tree.old)) now tree.old tree.new result }
 
+    // The steps of every run are the first ones of this list: one step for each path that goes, and one for each
+    // directory that stays and loses a child, in post-order.
+    ensures order { DoesInPostOrder (is_due (is_aged table.now now (T.state tree.old)) (T.state tree.old))
+        (clean_step (is_aged table.now now (T.state tree.old)) (T.state tree.old)) (T.steps tree.old) (T.steps tree.new) }
+
     // In each intermediate state, all directories with other timestamps lie on one path down from the root.
     ensures in_turn { IsCleanedInTurn now (T.state tree.old) (steps_done T.Tree tree.old tree.new) }
 
@@ -62,7 +69,8 @@ pub fn clean_run<T: Tree>(
     clean(alloc, tree, table, now)
 }
 
-/// Finds the steps of the clean phase and does them.
+/// Finds the steps of the clean phase and does them. The steps are in post-order: the steps of the children of a
+/// directory are in byte order, each after the steps of everything below it.
 fn clean<T: Tree>(alloc: Global, tree: &mut T, table: &Table, now: u64) -> Result<(), TreeFault>
     ensures ok { OnOk result (T.state tree.new ≡ cleaned table.now now (T.state tree.old)) }
     ensures exact { OnOk result (length (steps_done T.Tree tree.old tree.new)
@@ -70,6 +78,8 @@ fn clean<T: Tree>(alloc: Global, tree: &mut T, table: &Table, now: u64) -> Resul
     ensures acted { Acted T.Tree (Pruned (is_aged table.now now (T.state tree.old)) (T.state tree.old))
         (IsCleanStep (is_aged table.now now (T.state tree.old)) (T.state tree.old))
         (most_steps (is_aged table.now now (T.state tree.old)) (T.state tree.old)) now tree.old tree.new result }
+    ensures order { DoesInPostOrder (is_due (is_aged table.now now (T.state tree.old)) (T.state tree.old))
+        (clean_step (is_aged table.now now (T.state tree.old)) (T.state tree.old)) (T.steps tree.old) (T.steps tree.new) }
     ensures in_turn { IsCleanedInTurn now (T.state tree.old) (steps_done T.Tree tree.old tree.new) }
 {
     let judged = all_judged(alloc, tree, table, now)?;

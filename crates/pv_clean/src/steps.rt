@@ -26,8 +26,9 @@ struct Levels {
 /// Returns the steps of a clean phase, for a list of what may go by its age.
 ///
 /// An object is removed with everything below it. A directory that stays and loses a child gets its timestamps back.
-/// The steps of the children of a directory come in byte order, each after those of everything below it. The step of
-/// the directory comes last. No path is looked up to learn of its children, since they were judged right before it.
+/// Read from its end, the list is in post-order: the steps of the children of a directory are in byte order, each after
+/// those of everything below it. The step of the directory comes last. No path is looked up to learn of its children,
+/// since they were judged right before it.
 pub(crate) fn clean_steps<T: Tree>(
     alloc: Global,
     tree: &T,

@@ -27,5 +27,6 @@ returns-clause-judged g c =
       are = are;
       listing = rw c.root-root.ensures at c.in_ok-listed.ensures.all;
       gathered = c.in_ok-listed.ensures.gathered;
+      in_post_order = c.in_ok-listed.ensures.order;
     })
     c.judge_all.ensures

@@ -1,11 +1,12 @@
-use Rattle.std.proofs.Common.{ap, ◌∙◌, arith, length, reverse}
+use Rattle.std.proofs.Common.{refl, ap, ◌∙◌, arith, length, reverse}
 use Rattle.std.proofs.lemmas.List.{length-reverse}
 use Rattle.pv_steps.proofs.ActingLaws.{acted_within}
 use Rattle.pv_steps.proofs.TryingLaws.{acted_all, ask_can, tried_whole}
 use Rattle.pv_walk.specs.Edits.{Pruned}
+use Rattle.pv_walk.specs.PostOrder.{DoesInPostOrder}
 use Rattle.pv_table.specs.Cleaned.{is_aged}
 use Rattle.pv_clean.specs.Cleaning.{most_steps, IsCleanStep}
-use Rattle.pv_clean.proofs.CleanLaws.{aged_together, tried_told}
+use Rattle.pv_clean.proofs.CleanLaws.{aged_together, tried_in_order, tried_told}
 use Rattle.pv_clean.proofs.TurnLaws.{none_in_turn, tried_in_turn}
 use Rattle.pv_clean.proofs.CleanSteps.{planned_ask, planned_end, planned_exact}
 use Rattle.pv_clean.proofs.cleaning.clean.Goals as goal
@@ -52,6 +53,19 @@ returns-clause-acted g c =
     acted_within g.T.Tree (length (reverse steps)) (most_steps goes t) (omega (arith, length-reverse steps, number))
     (acted_all (Pruned goes t) (IsCleanStep goes t) c.args.now g.T.Tree (reverse steps) c.args.tree.now c.try_all.new.tree c.try_all.result c.try_all.ensures
     (planned_ask goes t c.args.now steps plan whole))
+
+pub returns-in_err-judged-clause-order : goal.returns-in_err-judged-clause-order
+returns-in_err-judged-clause-order g c = DoesInPostOrder.nothing refl
+
+pub returns-in_err-steps-clause-order : goal.returns-in_err-steps-clause-order
+returns-in_err-steps-clause-order g c = DoesInPostOrder.nothing refl
+
+pub returns-clause-order : goal.returns-clause-order
+returns-clause-order g c =
+    let t = g.T.Tree.state c.args.tree.now in
+    let goes = is_aged c.args.table.now c.args.now t in
+    let plan = c.in_ok-steps.ensures c.args.table.now c.args.now c.in_ok-judged.ensures.judged in
+    tried_in_order g.T.Tree goes c.args.now c.in_ok-steps.steps.items c.args.tree.now c.try_all.new.tree c.try_all.result plan c.try_all.ensures
 
 pub returns-in_err-judged-clause-in_turn : goal.returns-in_err-judged-clause-in_turn
 returns-in_err-judged-clause-in_turn g c = none_in_turn c.args.now (g.T.Tree.state c.args.tree.now) (g.T.Tree.steps c.args.tree.now)

@@ -17,6 +17,7 @@ loop-next-preserved g c = λ lines now are.
     record {
       listed = before.listed;
       whole = before.whole;
+      falling = before.falling;
       planning = planning_next lines now t ([] ∷ before.listed) before.whole c.requires c.loop-next.left.items c.pop.new.self.items c.in-Some.next c.in-Some.ensures.items
           c.loop-next.levels.staying.items c.loop-next.levels.going.items c.loop-next.steps.items before.planning _ _ _
           c.in_ok-add_step.ensures.staying c.in_ok-add_step.ensures.going c.in_ok-add_step.ensures.steps;
@@ -28,4 +29,4 @@ returns g c = λ lines now are.
     let before = c.loop-next.invariant lines now are in
     let none : c.loop-next.left.items ≡ [] = nil_from_length c.loop-next.left.items (sym c.loop-next.left.ok.0 ∙ c.in_default.ensures.cases.0) in
     subst (λ (steps : List Step). ArePlanned (is_aged lines now t) t steps) (sym c.reverse.ensures.items)
-    (planning_end lines now t ([] ∷ before.listed) before.whole c.loop-next.left.items _ _ c.loop-next.steps.items none before.planning)
+    (planning_end lines now t ([] ∷ before.listed) before.whole c.loop-next.left.items _ _ c.loop-next.steps.items none before.falling before.planning)
