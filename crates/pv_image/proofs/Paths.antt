@@ -1,5 +1,5 @@
 -- Paths are read name by name.
-use Rattle.std.proofs.Common.{◌≡◌, ◌≢◌, ℕ, zero, suc, ◌≤◌, true, List, [], ◌∷◌, ◌++◌, ◌-◌, length, get_or, map, take, drop, ◌==◌, Option, Some, None, Result, Ok, Err, IfOk, subst, refl, sym, ap, ◌∙◌, arith, append_assoc, take_all, Bor}
+use Rattle.std.proofs.Common.{◌≡◌, ◌<◌, ◌≢◌, ℕ, zero, suc, ◌≤◌, true, List, [], ◌∷◌, ◌++◌, ◌-◌, length, get_or, map, take, drop, ◌==◌, Option, Some, None, Result, Ok, Err, IfOk, subst, refl, sym, ap, ◌∙◌, arith, append_assoc, take_all, Bor}
 use Rattle.std.specs.List.{slice_split, join_with_byte}
 use Rattle.std.proofs.lemmas.Bool.{and_parts, and_from}
 use Rattle.std.proofs.lemmas.List.Splits.{join_with_byte-slice_split}
@@ -80,6 +80,30 @@ last_of (p ∷ []) zero h e = refl
 last_of (p ∷ []) (suc m) h e = cc
 last_of (p ∷ q ∷ ps) zero h e = cc
 last_of (p ∷ q ∷ ps) (suc m) h e = ap (λ (ts : List (List ℕ)). p.now ∷ ts) (last_of (q ∷ ps) m h (let below : length (q ∷ ps) ≡ suc m = cc in below))
+
+-- two slices are the list
+pub two_texts_of : (ps : List (Bor (List ℕ))) (a b : Bor (List ℕ)) → 2 ≤ length ps → length ps < 3 → (get_or ps 0 a).now ∷ (get_or ps 1 b).now ∷ [] ≡ texts ps
+two_texts_of [] a b low high = absurd (omega arith)
+two_texts_of (p ∷ []) a b low high = absurd (omega arith)
+two_texts_of (p ∷ q ∷ []) a b low high = refl
+two_texts_of (p ∷ q ∷ r ∷ ps) a b low high = absurd (omega arith)
+
+-- three slices are the list
+pub three_texts_of : (ps : List (Bor (List ℕ))) (a b c : Bor (List ℕ)) → 3 ≤ length ps → length ps < 4 → (get_or ps 0 a).now ∷ (get_or ps 1 b).now ∷ (get_or ps 2 c).now ∷ [] ≡ texts ps
+three_texts_of [] a b c low high = absurd (omega arith)
+three_texts_of (p ∷ ps) a b c low high = ap (λ (ts : List (List ℕ)). p.now ∷ ts) (two_texts_of ps b c (omega arith) (omega arith))
+
+-- four slices are the list
+pub four_texts_of : (ps : List (Bor (List ℕ))) (a b c d : Bor (List ℕ)) → 4 ≤ length ps → length ps < 5
+    → (get_or ps 0 a).now ∷ (get_or ps 1 b).now ∷ (get_or ps 2 c).now ∷ (get_or ps 3 d).now ∷ [] ≡ texts ps
+four_texts_of [] a b c d low high = absurd (omega arith)
+four_texts_of (p ∷ ps) a b c d low high = ap (λ (ts : List (List ℕ)). p.now ∷ ts) (three_texts_of ps b c d (omega arith) (omega arith))
+
+-- there are as many texts as slices
+pub as_many : (ps : List (Bor (List ℕ))) (ts : List (List ℕ)) → texts ps ≡ ts → length ps ≡ length ts
+as_many [] ts e = ap length e
+as_many (p ∷ ps) [] e = cc
+as_many (p ∷ ps) (t ∷ ts) e = ap suc (as_many ps ts (let rest : texts ps ≡ ts = cc in rest))
 
 -- seven slices, some more, and a last one are the list
 pub seven_and_last : (ps : List (Bor (List ℕ))) (a b c d e f g h : Bor (List ℕ)) → 8 ≤ length ps

@@ -178,3 +178,10 @@ module _ (o : List ℕ) (es all : List (Path × Object)) (e : Path × Object) (n
 pub walk_over : (es : List (Path × Object)) → None ≡ slice_get es 0 → es ≡ []
 walk_over [] is = refl
 walk_over (x ∷ xs) is = absurd (let no : None ≡ Some x = is in cc)
+
+-- the texts of the items so far, and of one more
+pub item_more : {X : Type 0} (f : X → List ℕ) (was now new : List ℕ) (xs : List X) (i : ℕ) (x : X) → i < length xs → x ≡ get_or xs i x
+    → now ≡ was ++ flat_map f (take i xs) → new ≡ now ++ f x → new ≡ was ++ flat_map f (take (i + 1) xs)
+item_more {X} f was now new xs i x within is so_far one =
+    one ∙ ap (λ (t : List ℕ). t ++ f x) so_far ∙ flat_map_more f was (take i xs) x
+    ∙ ap (λ (v : List X). was ++ flat_map f v) (sym (take_more xs i x within ∙ ap (λ (y : X). take i xs ++ y ∷ []) (sym is)))

@@ -4,7 +4,7 @@ use Rattle.std.specs.List.{flat_map}
 use Rattle.std.specs.Option.{option_or}
 use Rattle.std.specs.Str.{bytes_eq}
 use Rattle.std.proofs.lemmas.Grind.{flat_map-append}
-use Rattle.std.proofs.lemmas.List.{append-nil, map-append, take_more}
+use Rattle.std.proofs.lemmas.List.{append-nil, flat_map_more, map-append, take_more}
 use Rattle.std.proofs.lemmas.Slice.Eq.{bytes_eq-Decides}
 use Rattle.pv_requests.specs.declared.request.Request.{Request}
 use Rattle.pv_sysusers.specs.Lines.{Line, first_user, is_user, user_of}
@@ -14,6 +14,11 @@ use Rattle.pv_path.proofs.Tests.{option_or-none}
 
 pub shown_more : (xs : List (Bor Request × Option PathId)) (line : Bor Request × Option PathId) → shown (xs ++ line ∷ []) ≡ shown xs ++ shown_line line ∷ []
 shown_more xs line = map-append shown_line xs (line ∷ [])
+
+-- what items give, behind what was there, with one item more
+pub items_more : {X A : Type 0} (f : X → List A) (before : List A) (xs : List X) (i : ℕ) (x : X) → i < length xs → x ≡ get_or xs i x → (before ++ flat_map f (take i xs)) ++ f x ≡ before ++ flat_map f (take (i + 1) xs)
+items_more {X = X} f before xs i x below is =
+    flat_map_more f before (take i xs) x ∙ ap (λ (ys : List X). before ++ flat_map f ys) (ap (λ (y : X). take i xs ++ y ∷ []) is ∙ sym (take_more xs i x below))
 
 -- what lines give, with one line more
 pub lines_more : {A : Type 0} (f : Line → List A) (xs items : List (Bor Request × Option PathId)) (i : ℕ) (x : Bor Request × Option PathId) → items ≡ xs → i < length items → x ≡ get_or items i x → flat_map f (shown (take i xs)) ++ f (shown_line x) ≡ flat_map f (shown (take (i + 1) xs))

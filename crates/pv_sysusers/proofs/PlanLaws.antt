@@ -1,5 +1,6 @@
 -- Plans by their parts.
-use Rattle.std.proofs.Common.{◌≡◌, ℕ, Bool, List, ◌++◌, Some, None, Result, Ok, Err, append_assoc, refl, sym, ap, ◌∙◌}
+use Rattle.std.proofs.Common.{◌≡◌, ℕ, Bool, List, ◌++◌, Some, None, Result, Ok, Err, IfErr, append_assoc, refl, sym, ap, subst, ◌∙◌}
+use Rattle.std.specs.Prelude.{IsErrAnd}
 use Rattle.pv_accounts.specs.Entries.{is_group, is_passwd}
 use Rattle.pv_accounts.specs.InUse.{Ids, ids_of}
 use Rattle.pv_sysusers.specs.Groups.{NewGroups}
@@ -85,3 +86,15 @@ pub told_after : {A : Type 0} (r : Result A PlanFault) (heard stated new_message
 told_after (Ok x) heard stated new_messages a b first then_messages = then_messages ∙ ap (λ (ms : List (List ℕ)). ms ++ b) first ∙ append_assoc new_messages a b
 told_after (Err Memory) heard stated new_messages a b first then_messages = then_messages
 told_after (Err (NoFreeId name)) heard stated new_messages a b first then_messages = then_messages ∙ ap (λ (ms : List (List ℕ)). ms ++ b) first ∙ append_assoc new_messages a b
+
+-- ---- a call that runs out of memory
+
+-- it misses no text
+pub memory_misses : {A : Type 0} (r : Result A PlanFault) (texts : Result Texts (List ℕ)) → IsErrAnd r (λ fault. fault ≡ Memory) → IfErr r (Misses texts)
+memory_misses (Ok x) texts is = absurd is
+memory_misses (Err fault) texts is = subst (Misses texts) (sym is) tt
+
+-- and owes nothing
+pub memory_owes : {A : Type 0} (r : Result A PlanFault) (P : Type 0) → IsErrAnd r (λ fault. fault ≡ Memory) → UnlessMemory r P
+memory_owes (Ok x) P is = absurd is
+memory_owes (Err fault) P is = subst (λ (fault : PlanFault). UnlessMemoryBy fault P) (sym is) tt

@@ -1,3 +1,4 @@
+use Rattle.std.proofs.lemmas.Result.{IfOk-from_err}
 use Rattle.std.proofs.Common.{◌≡◌, true, false, inl, inr, ◌⊎◌, sym, ◌∙◌, refl}
 use Rattle.pv_steps.specs.declared.node.Kind.{Kind}
 use Rattle.pv_steps.specs.declared.node.Kind.TheVariants.{Directory, File, Link, Fifo, CharDevice, BlockDevice}
@@ -22,3 +23,15 @@ returns g c =
       | else-eq-via-else-eq w ↦ inr (no_file c.args.node.now.kind (λ e. let yes : c.eq.result ≡ true = rw e at c.eq.ensures in let wrong : true ≡ false = sym yes ∙ w.if-eq.false in cc))
     ] in
     λ o there. wanted_without c.args.path.now (g.T.Tree.state c.args.tree.now) c.args.sets.now c.requires.sets c.args.node.now c.requires.node none c.in_ok-new-2.new (rw c.in_ok-of-2.ensures at c.in_ok-new-2.ensures) o there
+
+pub returns-in_err-of : goal.returns-in_err-of
+returns-in_err-of g c = IfOk-from_err c.from_residual.result _ c.from_residual.ensures.0
+
+pub returns-in_err-new : goal.returns-in_err-new
+returns-in_err-new g c = IfOk-from_err c.from_residual-in_err-new.result _ c.from_residual-in_err-new.ensures.0
+
+pub returns-in_err-of-2 : goal.returns-in_err-of-2
+returns-in_err-of-2 g c = IfOk-from_err c.from_residual-in_err-of-2.result _ c.from_residual-in_err-of-2.ensures.0
+
+pub returns-in_err-new-2 : goal.returns-in_err-new-2
+returns-in_err-new-2 g c = IfOk-from_err c.from_residual-in_err-new-2.result _ c.from_residual-in_err-new-2.ensures.0

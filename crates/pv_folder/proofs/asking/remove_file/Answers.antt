@@ -1,4 +1,4 @@
-use Rattle.std.proofs.Common.{◌≡◌, ◌∙◌, ◌++◌, ◌∷◌, [], true, Option, sym, ap, subst}
+use Rattle.std.proofs.Common.{◌≡◌, ◌∙◌, ◌++◌, ◌∷◌, [], true, Option, sym, ap, subst, refl, le_refl}
 use Rattle.std.specs.Option.{option_to_list}
 use Rattle.std.specs.Prelude.{OnOk}
 use Rattle.pv_path.specs.Paths.{Path}
@@ -7,7 +7,9 @@ use Rattle.pv_folder.specs.Content.{Change, IsChanged, RemoveFile, spelled}
 use Rattle.pv_folder.specs.Folders.{tree_path}
 use Rattle.pv_folder.specs.Keeping.{IsChangedBy}
 use Rattle.pv_folder.specs.Made.{AreRecorded}
-use Rattle.pv_folder.proofs.AskingLaws.{file_removed}
+use Rattle.pv_folder.proofs.AskingLaws.{file_removed, memory_caused, memory_counted}
+use Rattle.std.proofs.lemmas.Result.{IfOk-from_err}
+use Rattle.pv_folder.proofs.MadeLaws.{anyhow}
 use Rattle.pv_folder.proofs.asking.remove_file.Goals as goal
 
 pub returns-clause-done : goal.returns-clause-done
@@ -29,3 +31,39 @@ returns-clause-recorded g c =
     (sym (file_removed top there (c.is_file.ensures.0 yes)))
     (subst (λ (p : Path). OnOk c.remove_file.result (AreRecorded (RemoveFile p ∷ []) (g.H.Host.changes c.args.host.now) (g.H.Host.changes c.remove_file.new.self)))
     (ap spelled c.deref.ensures.value ∙ c.in_ok-host_path.ensures) c.remove_file.ensures.recorded)
+
+pub returns-in_err-host_path-clause-done : goal.returns-in_err-host_path-clause-done
+returns-in_err-host_path-clause-done g c = IfOk-from_err c.from_residual.result _ c.from_residual.ensures.0
+
+pub returns-in_err-host_path-clause-kept : goal.returns-in_err-host_path-clause-kept
+returns-in_err-host_path-clause-kept g c = anyhow c.from_residual.result refl
+
+pub returns-in_err-host_path-clause-recorded : goal.returns-in_err-host_path-clause-recorded
+returns-in_err-host_path-clause-recorded g c = IfOk-from_err c.from_residual.result _ c.from_residual.ensures.0
+
+pub returns-in_err-host_path-clause-unrecorded : goal.returns-in_err-host_path-clause-unrecorded
+returns-in_err-host_path-clause-unrecorded g c = anyhow c.from_residual.result refl
+
+pub returns-in_err-host_path-clause-cause : goal.returns-in_err-host_path-clause-cause
+returns-in_err-host_path-clause-cause g c = memory_caused c.from_residual.result (g.H.Host.faults c.args.host.now) (g.H.Host.faults c.args.host.now) c.from_residual.ensures.1
+
+pub returns-in_err-host_path-clause-never_falls : goal.returns-in_err-host_path-clause-never_falls
+returns-in_err-host_path-clause-never_falls g c = le_refl (g.H.Host.faults c.args.host.now)
+
+pub returns-in_err-host_path-clause-count : goal.returns-in_err-host_path-clause-count
+returns-in_err-host_path-clause-count g c = memory_counted c.from_residual.result (g.H.Host.faults c.args.host.now) c.from_residual.ensures.1
+
+pub returns-clause-kept : goal.returns-clause-kept
+returns-clause-kept g c = c.remove_file.ensures.kept
+
+pub returns-clause-unrecorded : goal.returns-clause-unrecorded
+returns-clause-unrecorded g c = c.remove_file.ensures.unrecorded
+
+pub returns-clause-cause : goal.returns-clause-cause
+returns-clause-cause g c = c.remove_file.ensures.cause
+
+pub returns-clause-never_falls : goal.returns-clause-never_falls
+returns-clause-never_falls g c = c.remove_file.ensures.never_falls
+
+pub returns-clause-count : goal.returns-clause-count
+returns-clause-count g c = c.remove_file.ensures.count

@@ -16,6 +16,7 @@ use Rattle.pv_folder.specs.Reading.{Shows, found_below, items_of, path_of, seen_
 use Rattle.pv_folder.proofs.GoingLaws.{Faulty, IsGoing, going_at, going_first, going_odd, going_on, going_over, going_real, not_over, passed_on}
 use Rattle.pv_folder.proofs.MergingLaws.{plain_first, plain_on}
 use Rattle.pv_folder.proofs.RoomLaws.{going_unseen}
+use Rattle.std.proofs.lemmas.Result.{IfOk-from_err}
 use Rattle.pv_folder.proofs.reading_tree.read_tree.Goals as goal
 
 pub loop-found-init : goal.loop-found-init
@@ -122,3 +123,129 @@ returns-clause-real g c =
 
 pub returns-clause-plain : goal.returns-clause-plain
 returns-clause-plain g c = rw c.finish.ensures.files c.loop-found.invariant.5
+
+pub returns-in_err-items-clause-sound : goal.returns-in_err-items-clause-sound
+returns-in_err-items-clause-sound g c = IfOk-from_err c.from_residual.result _ c.from_residual.ensures.0
+
+pub returns-in_err-items-clause-real : goal.returns-in_err-items-clause-real
+returns-in_err-items-clause-real g c = IfOk-from_err c.from_residual.result _ c.from_residual.ensures.0
+
+pub returns-in_err-items-clause-plain : goal.returns-in_err-items-clause-plain
+returns-in_err-items-clause-plain g c = IfOk-from_err c.from_residual.result _ c.from_residual.ensures.0
+
+pub returns-in_err-items-clause-steps : goal.returns-in_err-items-clause-steps
+returns-in_err-items-clause-steps g c = IfOk-from_err c.from_residual.result _ c.from_residual.ensures.0
+
+pub returns-in_err-reading-clause-sound : goal.returns-in_err-reading-clause-sound
+returns-in_err-reading-clause-sound g c = IfOk-from_err c.from_residual-in_err-reading.result _ c.from_residual-in_err-reading.ensures.0
+
+pub returns-in_err-reading-clause-real : goal.returns-in_err-reading-clause-real
+returns-in_err-reading-clause-real g c = IfOk-from_err c.from_residual-in_err-reading.result _ c.from_residual-in_err-reading.ensures.0
+
+pub returns-in_err-reading-clause-plain : goal.returns-in_err-reading-clause-plain
+returns-in_err-reading-clause-plain g c = IfOk-from_err c.from_residual-in_err-reading.result _ c.from_residual-in_err-reading.ensures.0
+
+pub returns-in_err-reading-clause-steps : goal.returns-in_err-reading-clause-steps
+returns-in_err-reading-clause-steps g c = IfOk-from_err c.from_residual-in_err-reading.result _ c.from_residual-in_err-reading.ensures.0
+
+pub returns-in_err-path-clause-sound : goal.returns-in_err-path-clause-sound
+returns-in_err-path-clause-sound g c = IfOk-from_err c.from_residual-in_err-path.result _ c.from_residual-in_err-path.ensures.0
+
+pub returns-in_err-path-clause-real : goal.returns-in_err-path-clause-real
+returns-in_err-path-clause-real g c = IfOk-from_err c.from_residual-in_err-path.result _ c.from_residual-in_err-path.ensures.0
+
+pub returns-in_err-path-clause-plain : goal.returns-in_err-path-clause-plain
+returns-in_err-path-clause-plain g c = IfOk-from_err c.from_residual-in_err-path.result _ c.from_residual-in_err-path.ensures.0
+
+pub returns-in_err-path-clause-steps : goal.returns-in_err-path-clause-steps
+returns-in_err-path-clause-steps g c = IfOk-from_err c.from_residual-in_err-path.result _ c.from_residual-in_err-path.ensures.0
+
+pub returns-in_err-seen-clause-sound : goal.returns-in_err-seen-clause-sound
+returns-in_err-seen-clause-sound g c = IfOk-from_err c.from_residual-in_err-seen.result _ c.from_residual-in_err-seen.ensures.0
+
+pub returns-in_err-seen-clause-real : goal.returns-in_err-seen-clause-real
+returns-in_err-seen-clause-real g c = IfOk-from_err c.from_residual-in_err-seen.result _ c.from_residual-in_err-seen.ensures.0
+
+pub returns-in_err-seen-clause-plain : goal.returns-in_err-seen-clause-plain
+returns-in_err-seen-clause-plain g c = IfOk-from_err c.from_residual-in_err-seen.result _ c.from_residual-in_err-seen.ensures.0
+
+pub returns-in_err-seen-clause-steps : goal.returns-in_err-seen-clause-steps
+returns-in_err-seen-clause-steps g c = IfOk-from_err c.from_residual-in_err-seen.result _ c.from_residual-in_err-seen.ensures.0
+
+pub returns-in_err-count-clause-sound : goal.returns-in_err-count-clause-sound
+returns-in_err-count-clause-sound g c = IfOk-from_err c.from_residual-in_err-count.result _ c.from_residual-in_err-count.ensures.0
+
+pub returns-in_err-count-clause-real : goal.returns-in_err-count-clause-real
+returns-in_err-count-clause-real g c = IfOk-from_err c.from_residual-in_err-count.result _ c.from_residual-in_err-count.ensures.0
+
+pub returns-in_err-count-clause-plain : goal.returns-in_err-count-clause-plain
+returns-in_err-count-clause-plain g c = IfOk-from_err c.from_residual-in_err-count.result _ c.from_residual-in_err-count.ensures.0
+
+pub returns-in_err-count-clause-steps : goal.returns-in_err-count-clause-steps
+returns-in_err-count-clause-steps g c = IfOk-from_err c.from_residual-in_err-count.result _ c.from_residual-in_err-count.ensures.0
+
+pub returns-in_err-take-clause-sound : goal.returns-in_err-take-clause-sound
+returns-in_err-take-clause-sound g c = IfOk-from_err c.from_residual-in_err-take.result _ c.from_residual-in_err-take.ensures.0
+
+pub returns-in_err-take-clause-real : goal.returns-in_err-take-clause-real
+returns-in_err-take-clause-real g c = IfOk-from_err c.from_residual-in_err-take.result _ c.from_residual-in_err-take.ensures.0
+
+pub returns-in_err-take-clause-plain : goal.returns-in_err-take-clause-plain
+returns-in_err-take-clause-plain g c = IfOk-from_err c.from_residual-in_err-take.result _ c.from_residual-in_err-take.ensures.0
+
+pub returns-in_err-take-clause-steps : goal.returns-in_err-take-clause-steps
+returns-in_err-take-clause-steps g c = IfOk-from_err c.from_residual-in_err-take.result _ c.from_residual-in_err-take.ensures.0
+
+pub returns-in_err-items-clause-kept : goal.returns-in_err-items-clause-kept
+returns-in_err-items-clause-kept g c = c.items_in_tree.ensures.kept
+
+pub returns-in_err-items-clause-unasked : goal.returns-in_err-items-clause-unasked
+returns-in_err-items-clause-unasked g c = c.items_in_tree.ensures.unasked
+
+pub returns-in_err-items-clause-never_falls : goal.returns-in_err-items-clause-never_falls
+returns-in_err-items-clause-never_falls g c = c.items_in_tree.ensures.never_falls
+
+pub returns-in_err-reading-clause-kept : goal.returns-in_err-reading-clause-kept
+returns-in_err-reading-clause-kept g c = c.items_in_tree.ensures.kept
+
+pub returns-in_err-reading-clause-unasked : goal.returns-in_err-reading-clause-unasked
+returns-in_err-reading-clause-unasked g c = c.items_in_tree.ensures.unasked
+
+pub returns-in_err-reading-clause-never_falls : goal.returns-in_err-reading-clause-never_falls
+returns-in_err-reading-clause-never_falls g c = c.items_in_tree.ensures.never_falls
+
+pub returns-in_err-path-clause-kept : goal.returns-in_err-path-clause-kept
+returns-in_err-path-clause-kept g c = c.loop-found.invariant.3
+
+pub returns-in_err-path-clause-unasked : goal.returns-in_err-path-clause-unasked
+returns-in_err-path-clause-unasked g c = c.loop-found.invariant.6
+
+pub returns-in_err-path-clause-never_falls : goal.returns-in_err-path-clause-never_falls
+returns-in_err-path-clause-never_falls g c = c.loop-found.invariant.4
+
+pub returns-clause-kept : goal.returns-clause-kept
+returns-clause-kept g c = c.loop-found.invariant.3
+
+pub returns-clause-unasked : goal.returns-clause-unasked
+returns-clause-unasked g c = c.loop-found.invariant.6
+
+pub returns-clause-never_falls : goal.returns-clause-never_falls
+returns-clause-never_falls g c = c.loop-found.invariant.4
+
+pub returns-in_err-seen-clause-kept : goal.returns-in_err-seen-clause-kept
+returns-in_err-seen-clause-kept g c = c.look.ensures.kept ∙ c.loop-found.invariant.3
+
+pub returns-in_err-seen-clause-unasked : goal.returns-in_err-seen-clause-unasked
+returns-in_err-seen-clause-unasked g c = c.look.ensures.unasked ∙ c.loop-found.invariant.6
+
+pub returns-in_err-count-clause-kept : goal.returns-in_err-count-clause-kept
+returns-in_err-count-clause-kept g c = c.look.ensures.kept ∙ c.loop-found.invariant.3
+
+pub returns-in_err-count-clause-unasked : goal.returns-in_err-count-clause-unasked
+returns-in_err-count-clause-unasked g c = c.look.ensures.unasked ∙ c.loop-found.invariant.6
+
+pub returns-in_err-take-clause-kept : goal.returns-in_err-take-clause-kept
+returns-in_err-take-clause-kept g c = c.look.ensures.kept ∙ c.loop-found.invariant.3
+
+pub returns-in_err-take-clause-unasked : goal.returns-in_err-take-clause-unasked
+returns-in_err-take-clause-unasked g c = c.look.ensures.unasked ∙ c.loop-found.invariant.6

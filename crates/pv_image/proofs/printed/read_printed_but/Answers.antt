@@ -3,6 +3,7 @@ use Rattle.std.specs.List.{prefix_len}
 use Rattle.pv_path.specs.Printing.{is_plain_but}
 use Rattle.pv_image.proofs.Contents.{bytes_all}
 use Rattle.pv_image.proofs.Printing.{none_printed, printed_more}
+use Rattle.std.proofs.lemmas.Result.{IfOk-from_err}
 use Rattle.pv_image.proofs.printed.read_printed_but.Goals as goal
 
 pub returns-in-None : goal.returns-in-None
@@ -16,3 +17,12 @@ loop-rest-preserved c =
     (bytes_all c.args.text.now (λ i. let f = c.type_inv.text i in omega arith)) c.loop-rest.invariant.so_far c.loop-rest.invariant.are_bytes read.0 read.1
     (c.in_ok-rest-in-Some.ensures.added ∙ ap (λ (t : List ℕ). t ++ take (prefix_len (is_plain_but c.args.hidden.now) c.in-Some.after.now) c.in-Some.after.now) c.in_ok-push-in-Some.ensures.items) c.in_ok-rest-in-Some.ensures.rest in
     record { so_far = both.0; are_bytes = both.1 }
+
+pub returns-in_err-bytes : goal.returns-in_err-bytes
+returns-in_err-bytes c = IfOk-from_err c.from_residual.result _ c.from_residual.ensures.0
+
+pub returns-in_err-push-in-Some : goal.returns-in_err-push-in-Some
+returns-in_err-push-in-Some c = IfOk-from_err c.from_residual-in_err-push-in-Some.result _ c.from_residual-in_err-push-in-Some.ensures.0
+
+pub returns-in_err-rest-in-Some : goal.returns-in_err-rest-in-Some
+returns-in_err-rest-in-Some c = IfOk-from_err c.from_residual-in_err-rest-in-Some.result _ c.from_residual-in_err-rest-in-Some.ensures.0

@@ -1,8 +1,9 @@
-use Rattle.std.proofs.Common.{arith, refl, []}
+use Rattle.std.proofs.Common.{◌+◌, ◌<◌, ◌≤◌, ℕ, arith, refl, []}
 use Rattle.std.proofs.lemmas.Result.{err_from_is_err_and}
 use Rattle.std.specs.FinMap as fin
 use Rattle.pv_image.specs.Images.{Fact, InFacts, cut_off}
 use Rattle.pv_image.proofs.Stages.{cut_length, facts_more, facts_on, fails_later, last_more, no_fact_next, none_last, none_leads, none_read, refuses_fails}
+use Rattle.std.proofs.lemmas.Result.{IfOk-from_err}
 use Rattle.pv_image.proofs.reader.read_facts.Goals as goal
 
 pub loop-text-init : goal.loop-text-init
@@ -46,3 +47,33 @@ loop-text-preserved c =
 
 pub returns-clause-err : goal.returns-clause-err
 returns-clause-err c = λ version. c.loop-text.invariant.leads version _ (cut_off c.in_default.ensures.none refl)
+
+less : (m n : ℕ) → m + 1 ≤ n → m < n
+less m n h = omega arith
+
+pub loop-text-smaller : goal.loop-text-smaller
+loop-text-smaller c = less _ _ (cut_length c.loop-text.rest.now c.in-Some.text.now c.in-Some.after.now c.in-Some.ensures.some)
+
+pub returns-in_err-letter-clause-leads : goal.returns-in_err-letter-clause-leads
+returns-in_err-letter-clause-leads c = λ version. IfOk-from_err c.from_residual.result _ c.from_residual.ensures.0
+
+pub returns-in_err-letter-clause-text : goal.returns-in_err-letter-clause-text
+returns-in_err-letter-clause-text c = IfOk-from_err c.from_residual.result _ c.from_residual.ensures.0
+
+pub returns-in_err-letter-clause-next : goal.returns-in_err-letter-clause-next
+returns-in_err-letter-clause-next c = IfOk-from_err c.from_residual.result _ c.from_residual.ensures.0
+
+pub returns-in_err-letter-clause-small : goal.returns-in_err-letter-clause-small
+returns-in_err-letter-clause-small c = IfOk-from_err c.from_residual.result _ c.from_residual.ensures.0
+
+pub returns-in_err-add_fact-clause-leads : goal.returns-in_err-add_fact-clause-leads
+returns-in_err-add_fact-clause-leads c = λ version. IfOk-from_err c.from_residual-in_err-add_fact.result _ c.from_residual-in_err-add_fact.ensures.0
+
+pub returns-in_err-add_fact-clause-text : goal.returns-in_err-add_fact-clause-text
+returns-in_err-add_fact-clause-text c = IfOk-from_err c.from_residual-in_err-add_fact.result _ c.from_residual-in_err-add_fact.ensures.0
+
+pub returns-in_err-add_fact-clause-next : goal.returns-in_err-add_fact-clause-next
+returns-in_err-add_fact-clause-next c = IfOk-from_err c.from_residual-in_err-add_fact.result _ c.from_residual-in_err-add_fact.ensures.0
+
+pub returns-in_err-add_fact-clause-small : goal.returns-in_err-add_fact-clause-small
+returns-in_err-add_fact-clause-small c = IfOk-from_err c.from_residual-in_err-add_fact.result _ c.from_residual-in_err-add_fact.ensures.0

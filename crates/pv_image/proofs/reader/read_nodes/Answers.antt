@@ -1,9 +1,10 @@
-use Rattle.std.proofs.Common.{◌≡◌, true, false, sym, subst, ◌∙◌, arith, refl}
+use Rattle.std.proofs.Common.{◌≡◌, ◌+◌, ◌<◌, ◌≤◌, ℕ, true, false, sym, subst, ◌∙◌, arith, refl}
 use Rattle.std.proofs.lemmas.Result.{err_from_is_err_and}
 use Rattle.std.specs.FinMap as fin
 use Rattle.pv_image.specs.Images.{After, End, InNodes, Node, cut_off}
 use Rattle.pv_image.specs.Progress.{IsLastPath}
 use Rattle.pv_image.proofs.Stages.{bad_node, cut_length, fails_later, leads_on, nodes_on, path_more, refuses_fails, tree_end, tree_more}
+use Rattle.std.proofs.lemmas.Result.{IfOk-from_err}
 use Rattle.pv_image.proofs.reader.read_nodes.Goals as goal
 
 pub returns-then-is_end-clause-leads : goal.returns-then-is_end-clause-leads
@@ -46,3 +47,21 @@ loop-text-preserved c =
 
 pub returns-clause-err : goal.returns-clause-err
 returns-clause-err c = c.loop-text.invariant.leads _ (cut_off c.in_default.ensures.none refl)
+
+less : (m n : ℕ) → m + 1 ≤ n → m < n
+less m n h = omega arith
+
+pub loop-text-smaller : goal.loop-text-smaller
+loop-text-smaller c = less _ _ (cut_length c.loop-text.rest.now c.in-Some.text.now c.in-Some.after.now c.in-Some.ensures.some)
+
+pub returns-in_err-path-clause-leads : goal.returns-in_err-path-clause-leads
+returns-in_err-path-clause-leads c = IfOk-from_err c.from_residual.result _ c.from_residual.ensures.0
+
+pub returns-in_err-path-clause-text : goal.returns-in_err-path-clause-text
+returns-in_err-path-clause-text c = λ bytes so_far. IfOk-from_err c.from_residual.result _ c.from_residual.ensures.0
+
+pub returns-in_err-add_node-clause-leads : goal.returns-in_err-add_node-clause-leads
+returns-in_err-add_node-clause-leads c = IfOk-from_err c.from_residual-in_err-add_node.result _ c.from_residual-in_err-add_node.ensures.0
+
+pub returns-in_err-add_node-clause-text : goal.returns-in_err-add_node-clause-text
+returns-in_err-add_node-clause-text c = λ bytes so_far. IfOk-from_err c.from_residual-in_err-add_node.result _ c.from_residual-in_err-add_node.ensures.0

@@ -4,6 +4,7 @@ use Rattle.std.proofs.lemmas.Result.{err_from_is_err_and}
 use Rattle.pv_steps.specs.Trees.{IsTree}
 use Rattle.pv_image.specs.Images.{Before, InFacts, IsImage}
 use Rattle.pv_image.proofs.Stages.{fails_later, whole_image}
+use Rattle.std.proofs.lemmas.Result.{IfOk-from_err}
 use Rattle.pv_image.proofs.reader.read_whole.Goals as goal
 
 pub returns-in_err-facts-clause-err : goal.returns-in_err-facts-clause-err
@@ -24,3 +25,33 @@ returns-clause-image c =
     subst (IsImage c.args.bytes.now c.in_ok-facts.facts) (sym c.finish.ensures.files)
     (whole_image c.in_ok-version.version c.args.bytes.now c.in_ok-facts.facts c.read_nodes.new.tree.files c.in_ok-version.left.bytes.now c.in_ok-facts.left.bytes.now c.in_ok-left.left.bytes.now
     c.in_ok-version.ensures.text c.in_ok-facts.ensures.text (c.in_ok-left.ensures.text c.in_ok-facts.left.bytes.now c.in_ok-tree.ensures.text) c.in_ok-check_end.ensures.ok (subst IsTree c.finish.ensures.files c.finish.result.tree))
+
+pub returns-in_err-version-clause-image : goal.returns-in_err-version-clause-image
+returns-in_err-version-clause-image c = IfOk-from_err c.from_residual.result _ c.from_residual.ensures.0
+
+pub returns-in_err-version-clause-steps : goal.returns-in_err-version-clause-steps
+returns-in_err-version-clause-steps c = IfOk-from_err c.from_residual.result _ c.from_residual.ensures.0
+
+pub returns-in_err-facts-clause-image : goal.returns-in_err-facts-clause-image
+returns-in_err-facts-clause-image c = IfOk-from_err c.from_residual-in_err-facts.result _ c.from_residual-in_err-facts.ensures.0
+
+pub returns-in_err-facts-clause-steps : goal.returns-in_err-facts-clause-steps
+returns-in_err-facts-clause-steps c = IfOk-from_err c.from_residual-in_err-facts.result _ c.from_residual-in_err-facts.ensures.0
+
+pub returns-in_err-tree-clause-image : goal.returns-in_err-tree-clause-image
+returns-in_err-tree-clause-image c = IfOk-from_err c.from_residual-in_err-tree.result _ c.from_residual-in_err-tree.ensures.0
+
+pub returns-in_err-tree-clause-steps : goal.returns-in_err-tree-clause-steps
+returns-in_err-tree-clause-steps c = IfOk-from_err c.from_residual-in_err-tree.result _ c.from_residual-in_err-tree.ensures.0
+
+pub returns-in_err-left-clause-image : goal.returns-in_err-left-clause-image
+returns-in_err-left-clause-image c = IfOk-from_err c.from_residual-in_err-left.result _ c.from_residual-in_err-left.ensures.0
+
+pub returns-in_err-left-clause-steps : goal.returns-in_err-left-clause-steps
+returns-in_err-left-clause-steps c = IfOk-from_err c.from_residual-in_err-left.result _ c.from_residual-in_err-left.ensures.0
+
+pub returns-in_err-check_end-clause-image : goal.returns-in_err-check_end-clause-image
+returns-in_err-check_end-clause-image c = IfOk-from_err c.from_residual-in_err-check_end.result _ c.from_residual-in_err-check_end.ensures.0
+
+pub returns-in_err-check_end-clause-steps : goal.returns-in_err-check_end-clause-steps
+returns-in_err-check_end-clause-steps c = IfOk-from_err c.from_residual-in_err-check_end.result _ c.from_residual-in_err-check_end.ensures.0

@@ -1,4 +1,4 @@
-use Rattle.std.proofs.Common.{◌++◌, List, ℕ, drop, map, sym, ap, ◌∙◌, append-nil}
+use Rattle.std.proofs.Common.{◌≡◌, ◌<◌, ◌∷◌, [], Some, None, slice_get, length, arith, ◌++◌, List, ℕ, drop, map, sym, ap, ◌∙◌, append-nil}
 use Rattle.std.specs.List.{flat_map}
 use Rattle.std.specs.FinMap as fin
 use Rattle.pv_path.specs.Paths.{Path}
@@ -8,6 +8,7 @@ use Rattle.pv_image.specs.Writing.{node_line}
 use Rattle.pv_image.proofs.EmptyLaws.{entries_told, told_parts}
 use Rattle.pv_image.proofs.MappedLaws.{first_by, rest_by, shown_by}
 use Rattle.pv_image.proofs.Wholes.{walk_line, walk_over}
+use Rattle.std.proofs.lemmas.Result.{IfOk-from_err}
 use Rattle.pv_image.proofs.writer.add_nodes.Goals as goal
 
 pub loop-place-init : goal.loop-place-init
@@ -35,3 +36,28 @@ returns-clause-text c =
     sym (append-nil c.loop-place.output.items)
     ∙ ap (λ (v : List (Path × Object)). c.loop-place.output.items ++ flat_map node_line (map (shown_by (written_object c.args.extent)) v)) (sym (walk_over c.loop-place.walk c.in_default.ensures))
     ∙ c.loop-place.invariant
+
+pub returns-in_err-walk-clause-text : goal.returns-in_err-walk-clause-text
+returns-in_err-walk-clause-text c = IfOk-from_err c.from_residual.result _ c.from_residual.ensures.0
+
+pub returns-in_err-walk-clause-tree : goal.returns-in_err-walk-clause-tree
+returns-in_err-walk-clause-tree c = c.args.tree.now.tree
+
+pub returns-in_err-add_node-clause-text : goal.returns-in_err-add_node-clause-text
+returns-in_err-add_node-clause-text c = IfOk-from_err c.from_residual-in_err-add_node.result _ c.from_residual-in_err-add_node.ensures.0
+
+pub returns-in_err-add_node-clause-tree : goal.returns-in_err-add_node-clause-tree
+returns-in_err-add_node-clause-tree c = c.args.tree.now.tree
+
+pub returns-in_err-advance-clause-text : goal.returns-in_err-advance-clause-text
+returns-in_err-advance-clause-text c = IfOk-from_err c.from_residual-in_err-advance.result _ c.from_residual-in_err-advance.ensures.0
+
+pub returns-in_err-advance-clause-tree : goal.returns-in_err-advance-clause-tree
+returns-in_err-advance-clause-tree c = c.args.tree.now.tree
+
+shorter : (xs ys : List (Path × Object)) (x : Path × Object) → Some x ≡ slice_get xs 0 → ys ≡ drop 1 xs → length ys < length xs
+shorter [] ys x here rest = absurd (let no : Some x ≡ None = here in cc)
+shorter (y ∷ xs) ys x here rest = let same : length ys ≡ length xs = ap length rest in omega (arith, same)
+
+pub loop-place-smaller : goal.loop-place-smaller
+loop-place-smaller c = shorter c.loop-place.walk c.advance.new.self (c.in-Some.place.names.now, record { node = c.in-Some.place.node.now; payload = c.in-Some.place.payload.now }) c.in-Some.ensures c.in_ok-advance.ensures.ok

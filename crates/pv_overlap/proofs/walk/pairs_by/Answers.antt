@@ -1,4 +1,5 @@
-use Rattle.std.proofs.Common.{◌≡◌, ◌<◌, ◌+◌, ◌∷◌, ◌++◌, [], ℕ, List, All, true, length, filter, take, rules, arith, is_ok, subst, sym, ap, ◌∙◌}
+use Rattle.std.proofs.lemmas.Result.{IfOk-from_err}
+use Rattle.std.proofs.Common.{◌≡◌, ◌<◌, ◌+◌, ◌∷◌, ◌++◌, [], ℕ, List, All, true, length, filter, take, rules, arith, is_ok, subst, sym, ap, ◌∙◌, refl}
 use Rattle.std.proofs.lemmas.List.Elements.{All-filter, All-weaker, filter_passes}
 use Rattle.pv_path.specs.Paths.{Path, is_prefix}
 use Rattle.pv_overlap.specs.declared.walk.Head.{Head}
@@ -51,10 +52,11 @@ loop-at-preserved g c =
     All-weaker (λ q. HasAnswer (g.A.Asker.answers c.loop-at.asker) c.ask_open.new.found (head_at order q).index (head_at order at).index) (λ q. HasAnswer answers c.ask_open.new.found (head_at order q).index (head_at order at).index)
     (λ q has. has_same (g.A.Asker.answers c.loop-at.asker) answers c.ask_open.new.found inv.answers (head_at order q).index (head_at order at).index has) (filter begins open')
     (subst (λ (xs : List ℕ). All (λ q. HasAnswer (g.A.Asker.answers c.loop-at.asker) c.ask_open.new.found (head_at order q).index (head_at order at).index) xs) (c.as_slice-in-loop-at-4.ensures.value ∙ kept) told_order) in
-    let next = walked_next answers heads order is_order at (search rules) open' c.loop-at.found c.ask_open.new.found c.requires.unrelated inv.walked grown noted in
+    let inside : at < length order = search rules in
+    let next = walked_next answers heads order is_order at inside open' c.loop-at.found c.ask_open.new.found c.requires.unrelated inv.walked grown noted in
     record {
       walked = subst (λ (xs : List ℕ). Walked answers (length heads) order (at + 1) xs c.ask_open.new.found) (sym (c.in_ok-push.ensures.items ∙ ap (λ (xs : List ℕ). xs ++ at ∷ []) kept)) next;
-      asked = asked_next heads order is_order at (search rules) open' inv.walked.is_open (g.A.Asker.asked c.args.asker.now c.loop-at.asker) (g.A.Asker.asked c.args.asker.now c.ask_open.new.asker) inv.asked
+      asked = asked_next heads order is_order at inside open' inv.walked.is_open (g.A.Asker.asked c.args.asker.now c.loop-at.asker) (g.A.Asker.asked c.args.asker.now c.ask_open.new.asker) inv.asked
           (g.met.A.Asker.asked_on c.args.asker.now c.loop-at.asker c.ask_open.new.asker inv.asked.questions (questions_at order at (filter begins open')) inv.asked.recorded
           (subst (λ (xs : List ℕ). g.A.Asker.asked c.loop-at.asker c.ask_open.new.asker (questions_at order at xs)) (c.as_slice-in-loop-at-4.ensures.value ∙ kept)
           (subst (λ (o : List Head). g.A.Asker.asked c.loop-at.asker c.ask_open.new.asker (questions_at o at c.as_slice-in-loop-at-4.result.now)) same recorded.asked)));
@@ -140,3 +142,69 @@ returns-in_err-push-clause-asked g c =
     (subst (λ (xs : List ℕ). g.A.Asker.asked c.loop-at.asker c.ask_open.new.asker (questions_at order at xs)) kept
     (subst (λ (o : List Head). g.A.Asker.asked c.loop-at.asker c.ask_open.new.asker (questions_at o at c.as_slice-in-loop-at-4.result.now)) same c.in_ok-ask_open.ensures.asked))) in
     was_some c.args.heads.now order is_order (g.A.Asker.asked c.args.asker.now c.ask_open.new.asker) (at + 1) (omega arith) next.questions next.recorded next.are c.from_residual-in_err-push.result c.from_residual-in_err-push.ensures.0
+
+pub returns-in_err-order-clause-listed : goal.returns-in_err-order-clause-listed
+returns-in_err-order-clause-listed g c = IfOk-from_err c.from_residual.result _ c.from_residual.ensures.0
+
+pub returns-in_err-order-clause-all : goal.returns-in_err-order-clause-all
+returns-in_err-order-clause-all g c = IfOk-from_err c.from_residual.result _ c.from_residual.ensures.0
+
+pub returns-in_err-order-clause-ordered : goal.returns-in_err-order-clause-ordered
+returns-in_err-order-clause-ordered g c = IfOk-from_err c.from_residual.result _ c.from_residual.ensures.0
+
+pub returns-in_err-kept-clause-listed : goal.returns-in_err-kept-clause-listed
+returns-in_err-kept-clause-listed g c = IfOk-from_err c.from_residual-in_err-kept.result _ c.from_residual-in_err-kept.ensures.0
+
+pub returns-in_err-kept-clause-all : goal.returns-in_err-kept-clause-all
+returns-in_err-kept-clause-all g c = IfOk-from_err c.from_residual-in_err-kept.result _ c.from_residual-in_err-kept.ensures.0
+
+pub returns-in_err-kept-clause-ordered : goal.returns-in_err-kept-clause-ordered
+returns-in_err-kept-clause-ordered g c = IfOk-from_err c.from_residual-in_err-kept.result _ c.from_residual-in_err-kept.ensures.0
+
+pub returns-in_err-ask_open-clause-listed : goal.returns-in_err-ask_open-clause-listed
+returns-in_err-ask_open-clause-listed g c = IfOk-from_err c.from_residual-in_err-ask_open.result _ c.from_residual-in_err-ask_open.ensures.0
+
+pub returns-in_err-ask_open-clause-all : goal.returns-in_err-ask_open-clause-all
+returns-in_err-ask_open-clause-all g c = IfOk-from_err c.from_residual-in_err-ask_open.result _ c.from_residual-in_err-ask_open.ensures.0
+
+pub returns-in_err-ask_open-clause-ordered : goal.returns-in_err-ask_open-clause-ordered
+returns-in_err-ask_open-clause-ordered g c = IfOk-from_err c.from_residual-in_err-ask_open.result _ c.from_residual-in_err-ask_open.ensures.0
+
+pub returns-in_err-push-clause-listed : goal.returns-in_err-push-clause-listed
+returns-in_err-push-clause-listed g c = IfOk-from_err c.from_residual-in_err-push.result _ c.from_residual-in_err-push.ensures.0
+
+pub returns-in_err-push-clause-all : goal.returns-in_err-push-clause-all
+returns-in_err-push-clause-all g c = IfOk-from_err c.from_residual-in_err-push.result _ c.from_residual-in_err-push.ensures.0
+
+pub returns-in_err-push-clause-ordered : goal.returns-in_err-push-clause-ordered
+returns-in_err-push-clause-ordered g c = IfOk-from_err c.from_residual-in_err-push.result _ c.from_residual-in_err-push.ensures.0
+
+pub returns-in_err-order-clause-heads : goal.returns-in_err-order-clause-heads
+returns-in_err-order-clause-heads g c = refl
+
+pub returns-in_err-kept-clause-heads : goal.returns-in_err-kept-clause-heads
+returns-in_err-kept-clause-heads g c = c.loop-at.invariant.heads
+
+pub returns-in_err-kept-clause-answers : goal.returns-in_err-kept-clause-answers
+returns-in_err-kept-clause-answers g c = c.loop-at.invariant.answers
+
+pub returns-clause-heads : goal.returns-clause-heads
+returns-clause-heads g c = c.loop-at.invariant.heads
+
+pub returns-clause-answers : goal.returns-clause-answers
+returns-clause-answers g c = c.loop-at.invariant.answers
+
+pub returns-in_err-ask_open-clause-heads : goal.returns-in_err-ask_open-clause-heads
+returns-in_err-ask_open-clause-heads g c = c.ask_open.ensures.heads ∙ c.loop-at.invariant.heads
+
+pub returns-in_err-ask_open-clause-answers : goal.returns-in_err-ask_open-clause-answers
+returns-in_err-ask_open-clause-answers g c = same_on (g.A.Asker.answers c.args.asker.now) (g.A.Asker.answers c.loop-at.asker) (g.A.Asker.answers c.ask_open.new.asker) c.loop-at.invariant.answers c.ask_open.ensures.answers
+
+pub returns-in_err-push-clause-heads : goal.returns-in_err-push-clause-heads
+returns-in_err-push-clause-heads g c = c.ask_open.ensures.heads ∙ c.loop-at.invariant.heads
+
+pub returns-in_err-push-clause-answers : goal.returns-in_err-push-clause-answers
+returns-in_err-push-clause-answers g c = same_on (g.A.Asker.answers c.args.asker.now) (g.A.Asker.answers c.loop-at.asker) (g.A.Asker.answers c.ask_open.new.asker) c.loop-at.invariant.answers c.ask_open.ensures.answers
+
+pub returns-clause-ordered : goal.returns-clause-ordered
+returns-clause-ordered g c = c.listed.ensures.ordered

@@ -6,6 +6,8 @@ use Rattle.pv_sysusers.specs.Deciding.{UnlessMemory}
 use Rattle.pv_sysusers.specs.Planning.{Misses, files_in}
 use Rattle.pv_sysusers.specs.Plans.{AccountFiles, planned}
 use Rattle.pv_sysusers.specs.Accounted.{files_at, text_at}
+use Rattle.std.proofs.lemmas.Result.{IfOk-from_err}
+use Rattle.pv_sysusers.proofs.PlanLaws.{memory_misses, memory_owes}
 use Rattle.pv_sysusers.proofs.planning.planned_texts.Goals as goal
 
 pub returns-clause-texts : goal.returns-clause-texts
@@ -47,3 +49,39 @@ returns-clause-part g c =
     let gshadow = c.own_text.ensures ∙ ap (text_at s) c.in_ok-gshadow.ensures in
     let files : files_in c.text_at.result.now c.text_at-2.result.now c.text_at-3.result.now (option_map (λ f. f.now) c.own_text.result) ≡ files_at s = λ i. files_in (passwd i) (group i) (shadow i) (gshadow i) in
     subst (λ (f : AccountFiles). MessagesPart (planned c.args.requests.now c.args.taken.now f c.args.day).new_messages c.args.messages.now c.plan.new.messages) files c.plan.ensures.part
+
+pub returns-in_err-passwd-clause-texts : goal.returns-in_err-passwd-clause-texts
+returns-in_err-passwd-clause-texts g c = IfOk-from_err c.from_residual.result _ c.from_residual.ensures.0
+
+pub returns-in_err-passwd-clause-lacking : goal.returns-in_err-passwd-clause-lacking
+returns-in_err-passwd-clause-lacking g c = memory_misses c.from_residual.result _ c.from_residual.ensures.1
+
+pub returns-in_err-passwd-clause-new_messages : goal.returns-in_err-passwd-clause-new_messages
+returns-in_err-passwd-clause-new_messages g c = memory_owes c.from_residual.result _ c.from_residual.ensures.1
+
+pub returns-in_err-group-clause-texts : goal.returns-in_err-group-clause-texts
+returns-in_err-group-clause-texts g c = IfOk-from_err c.from_residual-in_err-group.result _ c.from_residual-in_err-group.ensures.0
+
+pub returns-in_err-group-clause-lacking : goal.returns-in_err-group-clause-lacking
+returns-in_err-group-clause-lacking g c = memory_misses c.from_residual-in_err-group.result _ c.from_residual-in_err-group.ensures.1
+
+pub returns-in_err-group-clause-new_messages : goal.returns-in_err-group-clause-new_messages
+returns-in_err-group-clause-new_messages g c = memory_owes c.from_residual-in_err-group.result _ c.from_residual-in_err-group.ensures.1
+
+pub returns-in_err-shadow-clause-texts : goal.returns-in_err-shadow-clause-texts
+returns-in_err-shadow-clause-texts g c = IfOk-from_err c.from_residual-in_err-shadow.result _ c.from_residual-in_err-shadow.ensures.0
+
+pub returns-in_err-shadow-clause-lacking : goal.returns-in_err-shadow-clause-lacking
+returns-in_err-shadow-clause-lacking g c = memory_misses c.from_residual-in_err-shadow.result _ c.from_residual-in_err-shadow.ensures.1
+
+pub returns-in_err-shadow-clause-new_messages : goal.returns-in_err-shadow-clause-new_messages
+returns-in_err-shadow-clause-new_messages g c = memory_owes c.from_residual-in_err-shadow.result _ c.from_residual-in_err-shadow.ensures.1
+
+pub returns-in_err-gshadow-clause-texts : goal.returns-in_err-gshadow-clause-texts
+returns-in_err-gshadow-clause-texts g c = IfOk-from_err c.from_residual-in_err-gshadow.result _ c.from_residual-in_err-gshadow.ensures.0
+
+pub returns-in_err-gshadow-clause-lacking : goal.returns-in_err-gshadow-clause-lacking
+returns-in_err-gshadow-clause-lacking g c = memory_misses c.from_residual-in_err-gshadow.result _ c.from_residual-in_err-gshadow.ensures.1
+
+pub returns-in_err-gshadow-clause-new_messages : goal.returns-in_err-gshadow-clause-new_messages
+returns-in_err-gshadow-clause-new_messages g c = memory_owes c.from_residual-in_err-gshadow.result _ c.from_residual-in_err-gshadow.ensures.1

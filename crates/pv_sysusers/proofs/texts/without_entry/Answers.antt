@@ -5,6 +5,7 @@ use Rattle.pv_accounts.specs.Entries.{is_gshadow}
 use Rattle.pv_sysusers.specs.Texts.{is_known, without_entry}
 use Rattle.pv_sysusers.proofs.MissingLaws.{known_more, missing_known, missing_new}
 use Rattle.pv_sysusers.proofs.texts.without_entry.Goals.{then-not-contains+in_ok-add+in_ok-push, else-not-contains}
+use Rattle.std.proofs.lemmas.Result.{IfOk-from_err}
 use Rattle.pv_sysusers.proofs.texts.without_entry.Goals as goal
 
 pub loop-need-preserved : goal.loop-need-preserved
@@ -32,3 +33,12 @@ loop-need-preserved c =
             inv.1,
           )
     ]
+
+pub returns-in_err-known : goal.returns-in_err-known
+returns-in_err-known c = IfOk-from_err c.from_residual.result _ c.from_residual.ensures.0
+
+pub returns-in_err-add : goal.returns-in_err-add
+returns-in_err-add c = IfOk-from_err c.from_residual-in_err-add.result _ c.from_residual-in_err-add.ensures.0
+
+pub returns-in_err-push : goal.returns-in_err-push
+returns-in_err-push c = IfOk-from_err c.from_residual-in_err-push.result _ c.from_residual-in_err-push.ensures.0

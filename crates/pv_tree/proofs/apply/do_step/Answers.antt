@@ -1,12 +1,16 @@
 use Rattle.std.proofs.Common.{◌≡◌, List, ℕ, [], refl, ap, sym, subst, ◌∙◌}
-use Rattle.pv_path.specs.Paths.{Path}
+use Rattle.pv_path.specs.Paths.{Path, parent_of}
 use Rattle.pv_steps.specs.declared.node.Kind.{Kind}
+use Rattle.pv_steps.specs.declared.node.Kind.TheVariants.{Link}
 use Rattle.pv_steps.specs.declared.step.Step.{Step}
 use Rattle.pv_steps.specs.Objects.{fresh}
 use Rattle.pv_steps.specs.Steps.{Can, HasRoom, Movable, after_at, moved, device_kind}
 use Rattle.pv_tree.specs.Near.{place_of}
 use Rattle.pv_tree.specs.Slots.{places_in}
 use Rattle.pv_tree.proofs.State.{removable, removed_at, made_at, changed_at, done}
+use Rattle.std.proofs.lemmas.Result.{IfOk-from_err}
+use Rattle.pv_path.proofs.Tests.{on_ok}
+use Rattle.pv_tree.specs.Edges.{Edges, led}
 use Rattle.pv_tree.proofs.apply.do_step.Goals as goal
 
 pub make-requires-clause-room : goal.make-requires-clause-room
@@ -65,3 +69,21 @@ returns-in-Rename-clause-ok c =
 pub returns-in-Unlink-clause-ok : goal.returns-in-Unlink-clause-ok
 returns-in-Unlink-clause-ok c =
     done c.unmake.result _ _ _ (removed_at (places_in c.args.slots.now.items) c.args.step.now c.args.at.path.now c.args.now c.requires.path c.in-Unlink.is) c.unmake.ensures.ok
+
+pub returns-in_ok-copy-in-MakeLink-clause-ok : goal.returns-in_ok-copy-in-MakeLink-clause-ok
+returns-in_ok-copy-in-MakeLink-clause-ok c =
+    let object : c.fresh-object-in-MakeLink.result ≡ fresh Link 0o777 c.in-MakeLink.target 0 0 c.args.now =
+    c.fresh-object-in-MakeLink.ensures ∙ ap (λ (b : List ℕ). fresh Link 0o777 b 0 0 c.args.now) c.in_ok-copy-in-MakeLink.ensures in
+    done c.make-in-MakeLink.result _ _ _ (made_at (places_in c.args.slots.now.items) c.args.step.now _ c.args.at.path.now _ _ c.args.now c.requires.path c.in-MakeLink.is object refl) c.make-in-MakeLink.ensures.ok
+
+pub returns-in_err-copy-in-MakeLink-clause-ok : goal.returns-in_err-copy-in-MakeLink-clause-ok
+returns-in_err-copy-in-MakeLink-clause-ok c = IfOk-from_err c.from_residual.result _ c.from_residual.ensures.0
+
+pub returns-in_err-copy-in-MakeLink-clause-directory : goal.returns-in_err-copy-in-MakeLink-clause-directory
+returns-in_err-copy-in-MakeLink-clause-directory c = IfOk-from_err c.from_residual.result _ c.from_residual.ensures.0
+
+pub returns-in-Write-clause-free : goal.returns-in-Write-clause-free
+returns-in-Write-clause-free c = c.change_at.ensures.free c.args.free.now.items c.requires.free
+
+pub returns-in-Write-clause-directory : goal.returns-in-Write-clause-directory
+returns-in-Write-clause-directory c = on_ok c.change_at.result (λ _. ap (λ (g : Edges). led g 0 (parent_of c.args.at.path.now)) c.change_at.ensures.edges ∙ c.requires.directory) c.change_at.ensures.ok

@@ -1,4 +1,4 @@
-use Rattle.std.proofs.Common.{◌≡◌, Some, ap, sym, ◌∙◌}
+use Rattle.std.proofs.Common.{◌≡◌, ◌≤◌, ℕ, Some, ap, sym, ◌∙◌, arith}
 use Rattle.pv_path.specs.Paths.{parent_of}
 use Rattle.pv_path.proofs.PathLaws.{parent_of-differs}
 use Rattle.pv_steps.specs.declared.node.Kind.TheVariants.{Directory}
@@ -7,7 +7,8 @@ use Rattle.pv_steps.specs.Steps.{on_at}
 use Rattle.pv_steps.proofs.TreeLaws.{not_absent, present_of_kind}
 use Rattle.pv_tree.specs.Edges.{Edges, led}
 use Rattle.pv_tree.specs.Slots.{number_in, places_in}
-use Rattle.pv_tree.proofs.ForestLaws.{change_places}
+use Rattle.pv_tree.proofs.ForestLaws.{change_places, forest_same, free_still, unreached_same}
+use Rattle.std.proofs.lemmas.Result.{IfOk-from_err, MatchResult-from_err}
 use Rattle.pv_tree.proofs.edits.make.Goals as goal
 
 -- the directory has the same number with the new object in it
@@ -32,3 +33,23 @@ returns-clause-ok c =
 
 pub returns-clause-directory : goal.returns-clause-directory
 returns-clause-directory c = ap (λ (g : Edges). led g 0 (parent_of c.args.at.path.now)) c.touch.ensures.edges ∙ directory c
+
+pub returns-in_err-put_below-clause-ok : goal.returns-in_err-put_below-clause-ok
+returns-in_err-put_below-clause-ok c = IfOk-from_err c.from_residual.result _ c.from_residual.ensures.0
+
+pub returns-in_err-put_below-clause-directory : goal.returns-in_err-put_below-clause-directory
+returns-in_err-put_below-clause-directory c = IfOk-from_err c.from_residual.result _ c.from_residual.ensures.0
+
+pub returns-in_err-put_below-clause-err : goal.returns-in_err-put_below-clause-err
+returns-in_err-put_below-clause-err c = MatchResult-from_err c.from_residual.result _ _ c.from_residual.ensures.0 (λ _. c.in_err-put_below.ensures.err)
+
+pub returns-clause-forest : goal.returns-clause-forest
+returns-clause-forest c = forest_same c.put_below.new.slots.items c.touch.new.slots.items c.touch.ensures.edges c.touch.ensures.length c.put_below.ensures.forest
+
+no_fewer : (m n : ℕ) → n ≡ m → m ≤ n
+no_fewer m n e = omega arith
+
+pub returns-clause-free : goal.returns-clause-free
+returns-clause-free c =
+    free_still c.put_below.new.slots.items c.touch.new.slots.items c.put_below.new.free.items (unreached_same c.put_below.new.slots.items c.touch.new.slots.items c.touch.ensures.edges c.touch.ensures.length)
+    (no_fewer _ _ c.touch.ensures.length) c.put_below.ensures.free

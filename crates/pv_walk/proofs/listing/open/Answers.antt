@@ -1,3 +1,4 @@
+use Rattle.std.proofs.lemmas.Result.{IfOk-from_err}
 use Rattle.std.proofs.Common.{◌++◌, List, map, append_assoc, sym, ap, ◌∙◌, [], ◌∷◌}
 use Rattle.std.specs.Prelude.{Option}
 use Rattle.pv_path.proofs.Tests.{on_ok}
@@ -24,3 +25,15 @@ returns-in_ok-add_object-in-Some-clause-listed g c =
     (λ e. c.in_ok-add_object-in-Some.ensures.listed
     ∙ ap (λ (object : Option ObjectState). c.args.listing.now.pieces.items ++ last_piece c.args.rest.now object) (sym c.in-Some.is ∙ c.in_ok-object_at.ensures.object))
     c.open_children.ensures.left
+
+pub returns-in_err-object_at-clause-left : goal.returns-in_err-object_at-clause-left
+returns-in_err-object_at-clause-left g c = IfOk-from_err c.from_residual.result _ c.from_residual.ensures.0
+
+pub returns-in_err-object_at-clause-listed : goal.returns-in_err-object_at-clause-listed
+returns-in_err-object_at-clause-listed g c = IfOk-from_err c.from_residual.result _ c.from_residual.ensures.0
+
+pub returns-in_err-add_object-in-Some-clause-left : goal.returns-in_err-add_object-in-Some-clause-left
+returns-in_err-add_object-in-Some-clause-left g c = IfOk-from_err c.from_residual-in_err-add_object-in-Some.result _ c.from_residual-in_err-add_object-in-Some.ensures.0
+
+pub returns-in_err-add_object-in-Some-clause-listed : goal.returns-in_err-add_object-in-Some-clause-listed
+returns-in_err-add_object-in-Some-clause-listed g c = IfOk-from_err c.from_residual-in_err-add_object-in-Some.result _ c.from_residual-in_err-add_object-in-Some.ensures.0

@@ -1,5 +1,6 @@
 use Rattle.std.proofs.Common.{◌≡◌, sym, ap, ◌∙◌, List, [], ◌∷◌, ◌++◌}
 use Rattle.std.proofs.lemmas.List.{nil_from_length}
+use Rattle.std.proofs.lemmas.Result.{IfOk-from_err}
 use Rattle.pv_path.specs.Paths.{Path}
 use Rattle.pv_steps.specs.Trees.{places}
 use Rattle.pv_walk.specs.declared.listing.Task.{Task}
@@ -61,3 +62,30 @@ returns-clause-few g c =
     listed_end s (names_at c.args.source.now t) (depth_of t) (within_depth s c.args.source.now t there)
     (copied_subtree c.args.top.now c.requires.top c.args.source.now t (g.met.T.Tree.is_tree c.args.tree.now)) c.loop-task.listing.pieces.items (rw none at c.loop-task.invariant) in
     cost_bound s c.args.source.now t there c.loop-task.listing.pieces.items end.0 end.1.0 end.1.1
+
+pub returns-in_err-push-clause-plan : goal.returns-in_err-push-clause-plan
+returns-in_err-push-clause-plan g c = IfOk-from_err c.from_residual.result _ c.from_residual.ensures.0
+
+pub returns-in_err-push-clause-all : goal.returns-in_err-push-clause-all
+returns-in_err-push-clause-all g c = IfOk-from_err c.from_residual.result _ c.from_residual.ensures.0
+
+pub returns-in_err-push-clause-few : goal.returns-in_err-push-clause-few
+returns-in_err-push-clause-few g c = IfOk-from_err c.from_residual.result _ c.from_residual.ensures.0
+
+pub returns-in_err-list_next-clause-plan : goal.returns-in_err-list_next-clause-plan
+returns-in_err-list_next-clause-plan g c = IfOk-from_err c.from_residual-in_err-list_next.result _ c.from_residual-in_err-list_next.ensures.0
+
+pub returns-in_err-list_next-clause-all : goal.returns-in_err-list_next-clause-all
+returns-in_err-list_next-clause-all g c = IfOk-from_err c.from_residual-in_err-list_next.result _ c.from_residual-in_err-list_next.ensures.0
+
+pub returns-in_err-list_next-clause-few : goal.returns-in_err-list_next-clause-few
+returns-in_err-list_next-clause-few g c = IfOk-from_err c.from_residual-in_err-list_next.result _ c.from_residual-in_err-list_next.ensures.0
+
+pub returns-in_err-push-clause-tree : goal.returns-in_err-push-clause-tree
+returns-in_err-push-clause-tree g c = g.met.T.Tree.is_tree c.args.tree.now
+
+pub returns-in_err-list_next-clause-tree : goal.returns-in_err-list_next-clause-tree
+returns-in_err-list_next-clause-tree g c = g.met.T.Tree.is_tree c.args.tree.now
+
+pub returns-clause-tree : goal.returns-clause-tree
+returns-clause-tree g c = g.met.T.Tree.is_tree c.args.tree.now

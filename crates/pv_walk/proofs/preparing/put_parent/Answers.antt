@@ -1,11 +1,12 @@
+use Rattle.pv_walk.specs.Putting.IsPutting.{kept}
 -- put_parent
 use Rattle.std.proofs.Common.{◌+◌, refl, sym, ap, subst, ◌∙◌, arith}
-use Rattle.std.specs.Prelude.{◌≡◌, Bool, false, cond, Option, Some, None, is_some}
+use Rattle.std.specs.Prelude.{◌≡◌, Bool, false, cond, Option, Some, None, is_some, true}
 use Rattle.pv_steps.specs.declared.object.Object.{Object}
 use Rattle.pv_steps.specs.Acting.{Acted}
 use Rattle.pv_steps.specs.Steps.{made}
 use Rattle.pv_steps.specs.Trees.{Places, places}
-use Rattle.pv_steps.proofs.ActingLaws.{acted_weaken}
+use Rattle.pv_steps.proofs.ActingLaws.{acted_weaken, Moves, well, acted_none}
 use Rattle.pv_walk.specs.Edits.{count_at}
 use Rattle.pv_walk.specs.declared.new_file.NewFile.{NewFile}
 use Rattle.pv_walk.specs.Preparing.{parent_file}
@@ -43,3 +44,17 @@ returns-clause-acted g c =
     (count_at t place + most_new) (cond (is_some (places t place)) 0 most_new) (over_putting place t c.is_present.ensures.tree absent parent_file) (λ s q. q) (omega (arith, none, most))
     (subst (λ (file : NewFile). Acted g.T.Tree (Replacing place (new_subtree file) t) (IsPutStep place file) (count_at t place + most_new) c.args.now c.args.tree.now c.put_over.new.tree c.put_over.result)
     c.parent_file.ensures c.put_over.ensures.acted)
+
+pub returns-then-is_present-clause-ok : goal.returns-then-is_present-clause-ok
+returns-then-is_present-clause-ok g c =
+    let t = places (g.T.Tree.state c.args.tree.now) in
+    let place = c.args.place.now in
+    let there : is_some (t place) ≡ true = sym c.is_present.ensures.present ∙ c.if-is_present.true in
+    sym (ap (λ (b : Bool). cond b t (made c.args.now place (new_object parent_file c.args.now) t)) there)
+
+pub returns-then-is_present-clause-acted : goal.returns-then-is_present-clause-acted
+returns-then-is_present-clause-acted g c =
+    let moves : Moves g.T.Tree = record { stays = g.met.T.Tree.reaches_self; goes_on = g.met.T.Tree.reaches_on; never_falls = g.met.T.Tree.never_falls } in
+    let t = g.T.Tree.state c.args.tree.now in
+    let place = c.args.place.now in
+    acted_none g.T.Tree moves (Putting place parent_file t) (IsPutStep place parent_file) (cond (is_some (places t place)) 0 most_new) c.args.now c.args.tree.now well refl (λ q plain. kept refl)

@@ -233,3 +233,18 @@ returns-in-false-true-clause-whole g c =
     (must_go_is t path false true (staged_test t c.args.stage.now path c.requires.stage false c.in-false-true.ensures.kind) (directory_test t path true c.in-false-true.ensures'.kind))
     (removal_at t) (g.T.Tree.steps c.args.tree.now) (g.T.Tree.steps c.take_away-in-false-true.new.tree))
     c.take_away-in-false-true.ensures.whole
+
+pub returns-in-false-false-clause-tree : goal.returns-in-false-false-clause-tree
+returns-in-false-false-clause-tree g c = g.met.T.Tree.is_tree c.args.tree.now
+
+pub returns-in-false-true-clause-tree : goal.returns-in-false-true-clause-tree
+returns-in-false-true-clause-tree g c = g.met.T.Tree.is_tree c.args.tree.now
+
+pub returns-in-true-false-clause-tree : goal.returns-in-true-false-clause-tree
+returns-in-true-false-clause-tree g c = g.met.T.Tree.is_tree c.args.tree.now
+
+pub returns-in-true-true-clause-tree : goal.returns-in-true-true-clause-tree
+returns-in-true-true-clause-tree g c = g.met.T.Tree.is_tree c.args.tree.now
+
+pub returns-then-not-is_present-clause-tree : goal.returns-then-not-is_present-clause-tree
+returns-then-not-is_present-clause-tree g c = g.met.T.Tree.is_tree c.args.tree.now

@@ -1,3 +1,4 @@
+use Rattle.std.proofs.lemmas.Result.{IfOk-from_err}
 use Rattle.std.proofs.Common.{◌≡◌, sym, ap, subst, ◌∙◌, [], ◌∷◌, ◌++◌, length, reverse, arith}
 use Rattle.std.proofs.Common.{length-append}
 use Rattle.std.proofs.lemmas.List.{append-nil, nil_from_length}
@@ -45,3 +46,42 @@ returns-clause-gathered g c =
 
 pub returns-clause-order : goal.returns-clause-order
 returns-clause-order g c = falling_end c.loop-next.listed.items c.loop-next.work.items c.loop-next.invariant.2
+
+pub returns-in_err-push_children-clause-all : goal.returns-in_err-push_children-clause-all
+returns-in_err-push_children-clause-all g c = IfOk-from_err c.from_residual.result _ c.from_residual.ensures.0
+
+pub returns-in_err-push_children-clause-gathered : goal.returns-in_err-push_children-clause-gathered
+returns-in_err-push_children-clause-gathered g c = IfOk-from_err c.from_residual.result _ c.from_residual.ensures.0
+
+pub returns-in_err-push_children-clause-order : goal.returns-in_err-push_children-clause-order
+returns-in_err-push_children-clause-order g c = IfOk-from_err c.from_residual.result _ c.from_residual.ensures.0
+
+pub returns-in_err-push_children-clause-tree : goal.returns-in_err-push_children-clause-tree
+returns-in_err-push_children-clause-tree g c = g.met.T.Tree.is_tree c.args.tree.now
+
+pub returns-in_err-push_children-2-clause-all : goal.returns-in_err-push_children-2-clause-all
+returns-in_err-push_children-2-clause-all g c = IfOk-from_err c.from_residual-in_err-push_children-2.result _ c.from_residual-in_err-push_children-2.ensures.0
+
+pub returns-in_err-push_children-2-clause-gathered : goal.returns-in_err-push_children-2-clause-gathered
+returns-in_err-push_children-2-clause-gathered g c = IfOk-from_err c.from_residual-in_err-push_children-2.result _ c.from_residual-in_err-push_children-2.ensures.0
+
+pub returns-in_err-push_children-2-clause-order : goal.returns-in_err-push_children-2-clause-order
+returns-in_err-push_children-2-clause-order g c = IfOk-from_err c.from_residual-in_err-push_children-2.result _ c.from_residual-in_err-push_children-2.ensures.0
+
+pub returns-in_err-push_children-2-clause-tree : goal.returns-in_err-push_children-2-clause-tree
+returns-in_err-push_children-2-clause-tree g c = g.met.T.Tree.is_tree c.args.tree.now
+
+pub returns-in_err-push-clause-all : goal.returns-in_err-push-clause-all
+returns-in_err-push-clause-all g c = IfOk-from_err c.from_residual-in_err-push.result _ c.from_residual-in_err-push.ensures.0
+
+pub returns-in_err-push-clause-gathered : goal.returns-in_err-push-clause-gathered
+returns-in_err-push-clause-gathered g c = IfOk-from_err c.from_residual-in_err-push.result _ c.from_residual-in_err-push.ensures.0
+
+pub returns-in_err-push-clause-order : goal.returns-in_err-push-clause-order
+returns-in_err-push-clause-order g c = IfOk-from_err c.from_residual-in_err-push.result _ c.from_residual-in_err-push.ensures.0
+
+pub returns-in_err-push-clause-tree : goal.returns-in_err-push-clause-tree
+returns-in_err-push-clause-tree g c = g.met.T.Tree.is_tree c.args.tree.now
+
+pub returns-clause-tree : goal.returns-clause-tree
+returns-clause-tree g c = g.met.T.Tree.is_tree c.args.tree.now

@@ -1,7 +1,9 @@
-use Rattle.std.proofs.Common.{◌≡◌, true, refl, inl}
+use Rattle.std.proofs.lemmas.Bool.{iff_false}
+use Rattle.std.proofs.lemmas.Result.{IfOk-from_err}
+use Rattle.std.proofs.Common.{◌≡◌, refl, inl, arith, ◌+◌, ◌-◌, ℕ, length}
 use Rattle.pv_steps.specs.declared.node.Node.{Node}
 use Rattle.pv_steps.specs.declared.step.Step.TheVariants.{SetAttrs}
-use Rattle.pv_steps.proofs.ActingLaws.{Moves, acted_none, no_memory, acted_tried}
+use Rattle.pv_steps.proofs.ActingLaws.{Moves, acted_none, no_memory, acted_tried, well}
 use Rattle.pv_walk.specs.SettingMetadata.{with_attrs_of}
 use Rattle.pv_walk.specs.Changing.{Changing, GivesAttrs}
 use Rattle.pv_walk.proofs.ChangingLaws.{kept_none, part_asks, part_ok, can_attrs, sets_metadata_attrs}
@@ -20,7 +22,7 @@ returns-in_err-copy-2-clause-acted g c =
 
 pub try_step-requires : goal.try_step-requires
 try_step-requires g c =
-    rw (c.in_ok-copy.ensures, c.in_ok-copy-2.ensures) (can_attrs c.args.path.now c.args.new.now (g.T.Tree.state c.args.tree.now) c.requires.can (g.met.T.Tree.is_tree c.args.tree.now) (λ h. let yes : c.args.kept ≡ true = c.requires.kept.1 h in cc))
+    rw (c.in_ok-copy.ensures, c.in_ok-copy-2.ensures) (can_attrs c.args.path.now c.args.new.now (g.T.Tree.state c.args.tree.now) c.requires.can (g.met.T.Tree.is_tree c.args.tree.now) (iff_false c.requires.kept c.if-kept.false))
 
 pub returns-clause-acted : goal.returns-clause-acted
 returns-clause-acted g c =
@@ -31,12 +33,49 @@ returns-clause-acted g c =
     c.args.tree.now c.try_step.new.tree c.try_step.result (rw (c.in_ok-copy.ensures, c.in_ok-copy-2.ensures) at c.try_step.ensures)
     (part_asks c.args.path.now c.args.new.now (g.T.Tree.state c.args.tree.now) c.requires.can
     (λ (n : Node). n.attrs) c.args.new.now.attrs (with_attrs_of c.args.new.now) (λ o. refl) (sets_metadata_attrs c.args.new.now) (SetAttrs c.args.path.now c.args.new.now.attrs) (λ now. refl) (λ now d. d) c.args.now
-    (λ h. let yes : c.args.kept ≡ true = c.requires.kept.1 h in cc)
-    (can_attrs c.args.path.now c.args.new.now (g.T.Tree.state c.args.tree.now) c.requires.can (g.met.T.Tree.is_tree c.args.tree.now) (λ h. let yes : c.args.kept ≡ true = c.requires.kept.1 h in cc)))
+    (iff_false c.requires.kept c.if-kept.false)
+    (can_attrs c.args.path.now c.args.new.now (g.T.Tree.state c.args.tree.now) c.requires.can (g.met.T.Tree.is_tree c.args.tree.now) (iff_false c.requires.kept c.if-kept.false)))
 
 pub returns-clause-ok : goal.returns-clause-ok
 returns-clause-ok g c =
     part_ok c.args.path.now c.args.new.now (g.T.Tree.state c.args.tree.now) c.requires.can
     (λ (n : Node). n.attrs) c.args.new.now.attrs (with_attrs_of c.args.new.now) (λ o. refl) (sets_metadata_attrs c.args.new.now) (SetAttrs c.args.path.now c.args.new.now.attrs) (λ now. refl) (λ now d. d) c.args.now
-    (λ h. let yes : c.args.kept ≡ true = c.requires.kept.1 h in cc)
+    (iff_false c.requires.kept c.if-kept.false)
     c.try_step.result (g.T.Tree.state c.try_step.new.tree) (rw (c.in_ok-copy.ensures, c.in_ok-copy-2.ensures) at c.try_step.ensures.state)
+
+pub returns-in_err-copy-clause-acted : goal.returns-in_err-copy-clause-acted
+returns-in_err-copy-clause-acted g c =
+    let moves : Moves g.T.Tree = record { stays = g.met.T.Tree.reaches_self; goes_on = g.met.T.Tree.reaches_on; never_falls = g.met.T.Tree.never_falls } in
+    let path = c.args.path.now in
+    let new = c.args.new.now in
+    let t = g.T.Tree.state c.args.tree.now in
+    acted_none g.T.Tree moves (Changing path (with_attrs_of new) t) (GivesAttrs path new t) 1 c.args.now c.args.tree.now c.from_residual.result (no_memory c.from_residual.result c.from_residual.ensures.1) (inl (λ q. refl))
+
+pub returns-in_err-copy-clause-ok : goal.returns-in_err-copy-clause-ok
+returns-in_err-copy-clause-ok g c = IfOk-from_err c.from_residual.result _ c.from_residual.ensures.0
+
+pub returns-in_err-copy-clause-idle : goal.returns-in_err-copy-clause-idle
+returns-in_err-copy-clause-idle g c = λ h. absurd (iff_false c.requires.kept c.if-kept.false h)
+
+pub returns-in_err-copy-2-clause-ok : goal.returns-in_err-copy-2-clause-ok
+returns-in_err-copy-2-clause-ok g c = IfOk-from_err c.from_residual-in_err-copy-2.result _ c.from_residual-in_err-copy-2.ensures.0
+
+pub returns-in_err-copy-2-clause-idle : goal.returns-in_err-copy-2-clause-idle
+returns-in_err-copy-2-clause-idle g c = λ h. absurd (iff_false c.requires.kept c.if-kept.false h)
+
+pub returns-clause-idle : goal.returns-clause-idle
+returns-clause-idle g c = λ h. absurd (iff_false c.requires.kept c.if-kept.false h)
+
+pub returns-then-kept-clause-acted : goal.returns-then-kept-clause-acted
+returns-then-kept-clause-acted g c =
+    let moves : Moves g.T.Tree = record { stays = g.met.T.Tree.reaches_self; goes_on = g.met.T.Tree.reaches_on; never_falls = g.met.T.Tree.never_falls } in
+    let path = c.args.path.now in
+    let new = c.args.new.now in
+    let t = g.T.Tree.state c.args.tree.now in
+    acted_none g.T.Tree moves (Changing path (with_attrs_of new) t) (GivesAttrs path new t) 1 c.args.now c.args.tree.now well refl (inl (λ q. refl))
+
+none_asked : (n : ℕ) → n - n + 0 ≡ 0
+none_asked n = omega arith
+
+pub returns-then-kept-clause-idle : goal.returns-then-kept-clause-idle
+returns-then-kept-clause-idle g c = λ _. none_asked (length (g.T.Tree.steps c.args.tree.now))

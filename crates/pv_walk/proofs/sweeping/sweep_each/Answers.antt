@@ -1,3 +1,4 @@
+use Rattle.std.proofs.lemmas.Result.{IfOk-from_err}
 use Rattle.std.proofs.Common.{◌≡◌, ℕ, ◌+◌, ◌≤◌, ◌<◌, true, sym, ap, subst, ◌∙◌, List, [], ◌∷◌, ◌++◌, length, take, get_or, Some, Result, arith}
 use Rattle.std.proofs.lemmas.List.{take_more, take_all}
 use Rattle.pv_path.specs.Paths.{Path, is_prefix, last_name, staging_of}
@@ -133,3 +134,9 @@ returns-in_err-sweep_place-clause-order g c =
 pub returns-clause-order : goal.returns-clause-order
 returns-clause-order g c =
     takes_here c.args.path.now c.loop-name.name-index (g.T.Tree.state c.args.tree.now) (g.T.Tree.steps c.args.tree.now) (g.T.Tree.steps c.loop-name.tree) c.loop-name.invariant.took
+
+pub returns-in_err-go_down-clause-taken : goal.returns-in_err-go_down-clause-taken
+returns-in_err-go_down-clause-taken g c = IfOk-from_err c.from_residual.result _ c.from_residual.ensures.0
+
+pub returns-in_err-sweep_place-clause-taken : goal.returns-in_err-sweep_place-clause-taken
+returns-in_err-sweep_place-clause-taken g c = IfOk-from_err c.from_residual-in_err-sweep_place.result _ c.from_residual-in_err-sweep_place.ensures.0

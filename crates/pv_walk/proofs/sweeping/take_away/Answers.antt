@@ -1,3 +1,4 @@
+use Rattle.std.proofs.lemmas.Result.{IfOk-from_err}
 use Rattle.std.proofs.Common.{◌≡◌, ℕ, ◌+◌, true, refl, sym, ap, subst, ◌∙◌, [], ◌∷◌, ◌++◌, is_some, arith}
 use Rattle.pv_path.specs.Paths.{Path, is_prefix}
 use Rattle.pv_path.proofs.PathLaws.{is_prefix-refl}
@@ -103,3 +104,15 @@ returns-clause-whole g c =
     (e ∙ ap (λ (s : Step). g.T.Tree.steps c.remove_below.new.tree ++ s ∷ [])
     (same_step c.args.now t (g.T.Tree.state c.remove_below.new.tree) c.args.path.now c.in_ok-copy.field-0 c.in_ok-copy.ensures c.is_present.ensures.tree c.in_ok-remove_below.ensures.emptied)))
     c.remove.ensures.whole
+
+pub returns-in_err-remove_below-clause-taken : goal.returns-in_err-remove_below-clause-taken
+returns-in_err-remove_below-clause-taken g c = IfOk-from_err c.from_residual.result _ c.from_residual.ensures.0
+
+pub returns-in_err-remove_below-clause-whole : goal.returns-in_err-remove_below-clause-whole
+returns-in_err-remove_below-clause-whole g c = IfOk-from_err c.from_residual.result _ c.from_residual.ensures.0
+
+pub returns-in_err-copy-clause-taken : goal.returns-in_err-copy-clause-taken
+returns-in_err-copy-clause-taken g c = IfOk-from_err c.from_residual-in_err-copy.result _ c.from_residual-in_err-copy.ensures.0
+
+pub returns-in_err-copy-clause-whole : goal.returns-in_err-copy-clause-whole
+returns-in_err-copy-clause-whole g c = IfOk-from_err c.from_residual-in_err-copy.result _ c.from_residual-in_err-copy.ensures.0

@@ -1,3 +1,4 @@
+use Rattle.std.proofs.lemmas.Result.{IfOk-from_err}
 use Rattle.std.proofs.Common.{◌≡◌, ◌<◌, ◌≤◌, ◌+◌, ◌-◌, length, sym, ap, ◌∙◌, arith}
 use Rattle.std.specs.List.{range_with_len}
 use Rattle.pv_steps.specs.Trees.{places}
@@ -37,3 +38,18 @@ returns-clause-place g c =
     let k = c.loop-k.k in
     let end : k ≡ length path = omega (arith, c.loop-k-test.false, c.loop-k.auto.k-end, c.len-k-end.ensures.count) in
     sym (c.loop-k.invariant ∙ ap (unsafe_component_from t path) (range_none k (length path) end))
+
+pub overflow_cast-result : goal.overflow_cast-result
+overflow_cast-result g c = omega (arith, c.requires, c.loop-k-test.true, c.len-k-end.ensures.count)
+
+pub returns-in_err-nodes-clause-place : goal.returns-in_err-nodes-clause-place
+returns-in_err-nodes-clause-place g c = IfOk-from_err c.from_residual.result _ c.from_residual.ensures.0
+
+pub returns-in_err-nodes-clause-tree : goal.returns-in_err-nodes-clause-tree
+returns-in_err-nodes-clause-tree g c = g.met.T.Tree.is_tree c.args.tree.now
+
+pub returns-clause-tree : goal.returns-clause-tree
+returns-clause-tree g c = g.met.T.Tree.is_tree c.args.tree.now
+
+pub returns-in-Some-clause-tree : goal.returns-in-Some-clause-tree
+returns-in-Some-clause-tree g c = g.met.T.Tree.is_tree c.args.tree.now

@@ -1,3 +1,4 @@
+use Rattle.std.proofs.lemmas.Result.{IfOk-from_err}
 use Rattle.std.proofs.Common.{◌≡◌, ◌<◌, ◌≤◌, ◌+◌, ◌-◌, length, take, sym, ap, ◌∙◌, arith, []}
 use Rattle.std.specs.List.{range_with_len}
 use Rattle.std.specs.Option.{option_or}
@@ -77,3 +78,30 @@ returns-clause-walked g c =
     ∙ walked_next t path last c.loop-k.absent k (range_with_len (k + 1) (length path + 1 - (k + 1))) (found ∙ c.in-None.is)
     ∙ ap (walked_from t path last (option_or c.loop-k.absent (if_absent (seen_of (t (take k path))) k))) none
     ∙ walked_end t path last (option_or c.loop-k.absent (if_absent (seen_of (t (take k path))) k)) ∙ ap unrefused (sym absent) ∙ sym c.end_of.ensures)
+
+pub overflow_cast-result : goal.overflow_cast-result
+overflow_cast-result g c = omega (arith, c.requires, c.loop-k-test.true, c.len-k-end.ensures.count)
+
+pub overflow_cast-k : goal.overflow_cast-k
+overflow_cast-k g c = omega (arith, c.requires, c.loop-k-test.true, c.len-k-end.ensures.count)
+
+pub overflow_cast-result-in-Some-why_owner : goal.overflow_cast-result-in-Some-why_owner
+overflow_cast-result-in-Some-why_owner g c = omega (arith, c.requires, c.len-last.ensures.count)
+
+pub overflow_cast-last : goal.overflow_cast-last
+overflow_cast-last g c = omega (arith, c.requires, c.len-last.ensures.count)
+
+pub returns-in_err-nodes-clause-walked : goal.returns-in_err-nodes-clause-walked
+returns-in_err-nodes-clause-walked g c = IfOk-from_err c.from_residual.result _ c.from_residual.ensures.0
+
+pub returns-clause-tree : goal.returns-clause-tree
+returns-clause-tree g c = g.met.T.Tree.is_tree c.args.tree.now
+
+pub returns-in-Some-clause-tree : goal.returns-in-Some-clause-tree
+returns-in-Some-clause-tree g c = g.met.T.Tree.is_tree c.args.tree.now
+
+pub returns-in-Some-why_owner-clause-tree : goal.returns-in-Some-why_owner-clause-tree
+returns-in-Some-why_owner-clause-tree g c = g.met.T.Tree.is_tree c.args.tree.now
+
+pub returns-in_err-nodes-clause-tree : goal.returns-in_err-nodes-clause-tree
+returns-in_err-nodes-clause-tree g c = g.met.T.Tree.is_tree c.args.tree.now

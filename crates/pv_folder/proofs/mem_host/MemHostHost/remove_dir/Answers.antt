@@ -1,10 +1,12 @@
-use Rattle.std.proofs.Common.{sym, subst}
+use Rattle.std.proofs.Common.{sym, subst, ap}
 use Rattle.pv_path.specs.Paths.{Path}
 use Rattle.pv_folder.specs.declared.item.HostKind.TheVariants as named
-use Rattle.pv_folder.specs.Content.{May, RemoveDir, held, spelled}
-use Rattle.pv_folder.specs.Memory.{content_of}
+use Rattle.pv_folder.specs.Content.{May, RemoveDir, held, spelled, Change}
+use Rattle.pv_folder.specs.Memory.{content_of, Becomes}
 use Rattle.pv_folder.proofs.Changing.{kind_there}
 use Rattle.pv_folder.proofs.Held.{is_content}
+use Rattle.std.specs.Prelude.{OnOk}
+use Rattle.pv_folder.proofs.AskingLaws.{recorded_as}
 use Rattle.pv_folder.proofs.mem_host.MemHostHost.remove_dir.Goals as goal
 
 pub named_path-requires : goal.named_path-requires
@@ -14,3 +16,9 @@ named_path-requires c =
 
 pub do_recorded-requires : goal.do_recorded-requires
 do_recorded-requires c = subst (λ (p : Path). May (held (content_of c.args.self.now.tree.files)) (RemoveDir p)) (sym c.in_ok-path.ensures) c.requires
+
+pub returns-clause-done : goal.returns-clause-done
+returns-clause-done c = subst (λ (change : Change). OnOk c.do_recorded.result (Becomes change c.args.self.now.tree.files c.do_recorded.new.tree.files)) (ap RemoveDir c.in_ok-path.ensures) c.do_recorded.ensures.done
+
+pub returns-clause-recorded : goal.returns-clause-recorded
+returns-clause-recorded c = recorded_as c.do_recorded.result _ _ _ _ c.do_recorded.ensures.recorded (ap RemoveDir c.in_ok-path.ensures)
