@@ -2,24 +2,24 @@
 use pv_folder::{MemHost, OpenFault, read_folder};
 use pv_image::{Image, read_image, write_image};
 use std::alloc::Global;
-use std::test::Fail;
+use std::process::Abort;
 
 /// The host that holds the tree of an image, with planned faults.
-fn host_of(alloc: Global, text: &[u8], fails: Vec<u64>) -> Result<MemHost, Fail> {
-    let Image { tree, facts: _ } = read_image(alloc, text).ok().ok_or("an image")?;
-    Ok(MemHost::new(tree, fails))
+fn host_of(rt: &impl Abort, alloc: Global, text: &[u8], fails: Vec<u64>) -> MemHost {
+    let Image { tree, facts: _ } = read_image(alloc, text).expect(rt, "an image");
+    MemHost::new(tree, fails)
 }
 
 /// What is answered of the folder `/f` of the host that holds the tree of an image.
-fn opened(alloc: Global, text: &[u8]) -> Result<Result<Image, OpenFault>, Fail> {
-    let mut host = host_of(alloc, text, Vec::new(alloc))?;
-    Ok(read_folder(alloc, &mut host, b"/f"))
+fn opened(rt: &impl Abort, alloc: Global, text: &[u8]) -> Result<Image, OpenFault> {
+    let mut host = host_of(rt, alloc, text, Vec::new(alloc));
+    read_folder(alloc, &mut host, b"/f")
 }
 
 /// The text of what the folder `/f` is opened as.
-fn opened_text(alloc: Global, text: &[u8]) -> Result<Vec<u8>, Fail> {
-    let image = opened(alloc, text)?.ok().ok_or("a folder that is opened")?;
-    Ok(write_image(alloc, &image.tree, &image.facts)?)
+fn opened_text(rt: &impl Abort, alloc: Global, text: &[u8]) -> Vec<u8> {
+    let image = opened(rt, alloc, text).expect(rt, "a folder that is opened");
+    write_image(alloc, &image.tree, &image.facts).expect(rt, "memory")
 }
 
 /// A folder whose manifest has the fact `H beech`, the owner 7 and the mode 0600 for `/a`, the file `/gone`, and the link `/l`.
@@ -45,66 +45,63 @@ l /l 0777 0 0 0,0,0,0 - - - a
 end
 ";
 
-#[test]
-fn opens_a_folder(rt: HostRuntime) -> Result<(), Fail> {
-    let text = opened_text(rt.alloc(), WITH_MANIFEST)?;
-    assert!(rt; text.as_slice() == MERGED);
-    Ok(())
-}
-
-#[test]
-fn opens_a_folder_without_a_manifest(rt: HostRuntime) -> Result<(), Fail> {
-    let text = opened_text(
-        rt.alloc(),
-        b"tree-image 2
+/// A folder without a manifest, and what it is opened as.
+const WITHOUT_MANIFEST: &[u8] = b"tree-image 2
 d / 0755 0 0 0,0,0,0 - - - -
 d /f 0755 0 0 0,0,0,0 - - - -
 d /f/tree 0755 0 0 0,0,0,0 - - - -
 end
-",
-    )?;
-    assert!(rt; text.as_slice() == b"tree-image 2\nd / 0755 0 0 0,0,0,0 - - - -\nend\n".as_slice());
-    Ok(())
+";
+
+const EMPTY: &[u8] = b"tree-image 2
+d / 0755 0 0 0,0,0,0 - - - -
+end
+";
+
+#[test]
+fn opens_a_folder(rt: HostRuntime) {
+    let text = opened_text(&rt, rt.alloc(), WITH_MANIFEST);
+    assert!(rt; text.as_slice() == MERGED);
 }
 
 #[test]
-fn refuses_what_is_not_prepared(rt: HostRuntime) -> Result<(), Fail> {
-    let alloc = rt.alloc();
-    let none = opened(alloc, b"tree-image 2\nd / 0755 0 0 0,0,0,0 - - - -\nend\n")?;
-    assert!(rt; matches!(none, Err(OpenFault::NotPrepared)));
-    let directory = opened(
-        alloc,
-        b"tree-image 2
+fn opens_a_folder_without_a_manifest(rt: HostRuntime) {
+    let text = opened_text(&rt, rt.alloc(), WITHOUT_MANIFEST);
+    assert!(rt; text.as_slice() == EMPTY);
+}
+
+/// A host with a directory in the place of a manifest.
+const DIRECTORY: &[u8] = b"tree-image 2
 d / 0755 0 0 0,0,0,0 - - - -
 d /f 0755 0 0 0,0,0,0 - - - -
 d /f/manifest.new 0755 0 0 0,0,0,0 - - - -
 d /f/tree 0755 0 0 0,0,0,0 - - - -
 end
-",
-    )?;
-    assert!(rt; matches!(directory, Err(OpenFault::NotPrepared)));
-    Ok(())
+";
+
+/// Whether the folder `/f` is said not to be prepared.
+fn is_unprepared(rt: &impl Abort, alloc: Global, text: &[u8]) -> bool {
+    matches!(opened(rt, alloc, text), Err(OpenFault::NotPrepared))
 }
 
-/// A manifest is read before `tree` is read, and the first odd object in `tree` is answered.
 #[test]
-fn tells_the_first_fault(rt: HostRuntime) -> Result<(), Fail> {
-    let alloc = rt.alloc();
-    let bad = opened(
-        alloc,
-        b"tree-image 2
+fn refuses_what_is_not_prepared(rt: HostRuntime) {
+    assert!(rt; is_unprepared(&rt, rt.alloc(), EMPTY));
+    assert!(rt; is_unprepared(&rt, rt.alloc(), DIRECTORY));
+}
+
+/// A manifest that is not one, and an odd object.
+const BAD: &[u8] = b"tree-image 2
 d / 0755 0 0 0,0,0,0 - - - -
 d /f 0755 0 0 0,0,0,0 - - - -
 f /f/manifest 0644 0 0 0,0,0,0 - - - YQ==
 d /f/tree 0755 0 0 0,0,0,0 - - - -
 p /f/tree/x 0644 0 0 0,0,0,0 - - - -
 end
-",
-    )?;
-    assert!(rt; matches!(bad, Err(OpenFault::BadManifest(_))));
-    let odd = opened(
-        alloc,
-        b"tree-image 2
+";
+
+/// Two odd objects.
+const ODD: &[u8] = b"tree-image 2
 d / 0755 0 0 0,0,0,0 - - - -
 d /f 0755 0 0 0,0,0,0 - - - -
 d /f/tree 0755 0 0 0,0,0,0 - - - -
@@ -112,24 +109,28 @@ d /f/tree/d 0755 0 0 0,0,0,0 - - - -
 p /f/tree/d/x 0644 0 0 0,0,0,0 - - - -
 p /f/tree/e 0644 0 0 0,0,0,0 - - - -
 end
-",
-    )?;
-    assert!(rt;
-        matches!(odd, Err(OpenFault::OddObject(ref path)) if path.as_slice() == b"/tree/d/x".as_slice())
-    );
-    Ok(())
+";
+
+/// A manifest is read before `tree` is read, and the first odd object in `tree` is answered.
+#[test]
+fn tells_the_first_fault(rt: HostRuntime) {
+    let bad = opened(&rt, rt.alloc(), BAD);
+    assert!(rt; matches!(bad, Err(OpenFault::BadManifest(_))));
+    match opened(&rt, rt.alloc(), ODD) {
+        Err(OpenFault::OddObject(path)) => {
+            assert!(rt; path.as_slice() == b"/tree/d/x".as_slice())
+        }
+        _ => panic!(rt; "no odd object"),
+    }
 }
 
 /// Each of the calls that opening makes may fail: the list, the manifest, `tree`, `a`, `d` and `d/b`.
 #[test]
-fn passes_on_faults_of_the_host(rt: HostRuntime) -> Result<(), Fail> {
-    let alloc = rt.alloc();
+fn passes_on_faults_of_the_host(rt: HostRuntime) {
     for call in 0..6u64 {
-        let mut fails = Vec::new(alloc);
-        fails.push(call)?;
-        let mut host = host_of(alloc, WITH_MANIFEST, fails)?;
-        let answer = read_folder(alloc, &mut host, b"/f");
+        let fails = vec![in rt.alloc(); call].expect(&rt, "memory");
+        let mut host = host_of(&rt, rt.alloc(), WITH_MANIFEST, fails);
+        let answer = read_folder(rt.alloc(), &mut host, b"/f");
         assert!(rt; matches!(answer, Err(OpenFault::HostFailed)), "{call}");
     }
-    Ok(())
 }

@@ -5,7 +5,6 @@ use pv_table::{Table, build};
 use pv_text::{Facts, Messages, OneLine, Place};
 use std::alloc::{AllocError, Global};
 use std::process::Abort;
-use std::test::Fail;
 
 /// A lookup that knows nobody.
 pub(crate) struct Nobody;
@@ -40,10 +39,10 @@ pub(crate) fn lines_of(alloc: Global, text: &[u8]) -> Result<LineList, LineFault
 }
 
 /// The active lines of a text.
-pub(crate) fn table_of(rt: &impl Abort, alloc: Global, text: &str) -> Result<Table, Fail> {
+pub(crate) fn table_of(rt: &impl Abort, alloc: Global, text: &str) -> Table {
     let lines = lines_of(alloc, text.as_bytes()).expect(rt, text);
     let mut messages = Messages::new(alloc);
-    Ok(build(alloc, lines, false, None, None, &mut messages)?)
+    build(alloc, lines, false, None, None, &mut messages).expect(rt, "memory")
 }
 
 /// Adds what is said, each message behind a bar.

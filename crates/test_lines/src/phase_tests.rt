@@ -7,19 +7,18 @@ use pv_steps::{Kind, Node, Stamps};
 use pv_table::{Table, is_old, names, names_first, scope_of};
 use std::alloc::{AllocError, Global};
 use std::process::Abort;
-use std::test::Fail;
 use test_sheet::{kind_of, plain_node};
 
 /// The timestamps of the texts of the modification timestamp and of all others.
-fn stamps_of(modify: &str, other: &str) -> Result<Stamps, Fail> {
-    let modify = modify.parse::<u64>()?;
-    let stamp = other.parse::<u64>()?;
-    Ok(Stamps {
+fn stamps_of(rt: &impl Abort, modify: &str, other: &str) -> Stamps {
+    let modify = modify.parse::<u64>().expect(rt, "a timestamp");
+    let stamp = other.parse::<u64>().expect(rt, "a timestamp");
+    Stamps {
         access: stamp,
         birth: stamp,
         change: stamp,
         modify,
-    })
+    }
 }
 
 /// The object of a kind, an owner and timestamps.
@@ -31,27 +30,27 @@ fn node_of(alloc: Global, kind: &str, uid: u32, stamps: Stamps) -> Node {
 }
 
 /// The object of a text, `KIND PATH UID STAMP STAMP`: the modification timestamp and then all others.
-fn thing_of(rt: &impl Abort, alloc: Global, text: &str) -> Result<Thing, Fail> {
-    let fields: Vec<&str> = text.split(' ').collect(alloc)?;
+fn thing_of(rt: &impl Abort, alloc: Global, text: &str) -> Thing {
+    let fields: Vec<&str> = text.split(' ').collect(alloc).expect(rt, "memory");
     match fields.as_slice() {
         [kind, path, uid, modify, other] => {
-            let uid = uid.parse::<u32>()?;
-            let stamps = stamps_of(modify, other)?;
-            let path = parse_path(alloc, path.as_bytes())?;
+            let uid = uid.parse::<u32>().expect(rt, "a UID");
+            let stamps = stamps_of(rt, modify, other);
+            let path = parse_path(alloc, path.as_bytes()).expect(rt, "a path");
             let node = node_of(alloc, kind, uid, stamps);
-            Ok(Thing { path, node })
+            Thing { path, node }
         }
         _ => panic!(rt; "an object: {text}"),
     }
 }
 
 /// The objects of a text, in the order of their paths.
-fn things_of(rt: &impl Abort, alloc: Global, text: &str) -> Result<Vec<Thing>, Fail> {
+fn things_of(rt: &impl Abort, alloc: Global, text: &str) -> Vec<Thing> {
     let mut things = Vec::new(alloc);
     for line in text.lines() {
-        things.push(thing_of(rt, alloc, line)?)?;
+        things.push(thing_of(rt, alloc, line)).expect(rt, "memory");
     }
-    Ok(things)
+    things
 }
 
 /// The owner that a line gives.
@@ -203,29 +202,19 @@ f /q/f 0 0 0
 ";
 
 /// The paths that go in the phase clean by some lines, the first of them last.
-fn cleaned_text(
-    rt: &impl Abort,
-    alloc: Global,
-    lines: &str,
-    objects: &str,
-) -> Result<Vec<u8>, Fail> {
-    let table = table_of(rt, alloc, lines)?;
-    let things = things_of(rt, alloc, objects)?;
-    let going = cleaned(alloc, &table, &things, NOW)?;
-    Ok(text_of(alloc, &going)?)
+fn cleaned_text(rt: &impl Abort, alloc: Global, lines: &str, objects: &str) -> Vec<u8> {
+    let table = table_of(rt, alloc, lines);
+    let things = things_of(rt, alloc, objects);
+    let going = cleaned(alloc, &table, &things, NOW).expect(rt, "memory");
+    text_of(alloc, &going).expect(rt, "memory")
 }
 
 /// The paths that go in the phase remove by some lines, the first of them last.
-fn removed_text(
-    rt: &impl Abort,
-    alloc: Global,
-    lines: &str,
-    objects: &str,
-) -> Result<Vec<u8>, Fail> {
-    let table = table_of(rt, alloc, lines)?;
-    let things = things_of(rt, alloc, objects)?;
-    let going = removed(alloc, table.lines(), &things)?;
-    Ok(text_of(alloc, &going)?)
+fn removed_text(rt: &impl Abort, alloc: Global, lines: &str, objects: &str) -> Vec<u8> {
+    let table = table_of(rt, alloc, lines);
+    let things = things_of(rt, alloc, objects);
+    let going = removed(alloc, table.lines(), &things).expect(rt, "memory");
+    text_of(alloc, &going).expect(rt, "memory")
 }
 
 /// Lines, objects, and what goes in the phase clean.
@@ -238,12 +227,11 @@ const CLEANED: &[(&str, &str, &str)] = &[
 ];
 
 #[test]
-fn old_objects_go(rt: HostRuntime) -> Result<(), Fail> {
+fn old_objects_go(rt: HostRuntime) {
     for &(lines, objects, wanted) in CLEANED {
-        let seen = cleaned_text(&rt, rt.alloc(), lines, objects)?;
+        let seen = cleaned_text(&rt, rt.alloc(), lines, objects);
         assert!(rt; seen.as_slice() == wanted.as_bytes(), "{lines}: {seen:?}");
     }
-    Ok(())
 }
 
 /// Lines, objects, and what goes in the phase remove.
@@ -259,10 +247,9 @@ const REMOVED: &[(&str, &str, &str)] = &[
 ];
 
 #[test]
-fn named_objects_go(rt: HostRuntime) -> Result<(), Fail> {
+fn named_objects_go(rt: HostRuntime) {
     for &(lines, objects, wanted) in REMOVED {
-        let seen = removed_text(&rt, rt.alloc(), lines, objects)?;
+        let seen = removed_text(&rt, rt.alloc(), lines, objects);
         assert!(rt; seen.as_slice() == wanted.as_bytes(), "{lines}: {seen:?}");
     }
-    Ok(())
 }

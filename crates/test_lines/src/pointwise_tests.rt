@@ -4,7 +4,6 @@ use crate::standings::{standing_of, text_of};
 use pv_explain::state_after;
 use std::alloc::Global;
 use std::process::Abort;
-use std::test::Fail;
 
 /// Lines, the objects before, and those that all lines leave.
 const ROWS: &[(&str, &str, &str)] = &[
@@ -89,33 +88,26 @@ const COUNTS: &[(usize, &str)] = &[
 ];
 
 /// The text of what the first lines of a table leave.
-fn left(
-    rt: &impl Abort,
-    alloc: Global,
-    lines: &str,
-    count: usize,
-    before: &str,
-) -> Result<String, Fail> {
-    let table = table_of(rt, alloc, lines)?;
-    let start = standing_of(rt, alloc, before)?;
-    text_of(rt, alloc, &state_after(alloc, &table, count, start)?)
+fn left(rt: &impl Abort, alloc: Global, lines: &str, count: usize, before: &str) -> String {
+    let table = table_of(rt, alloc, lines);
+    let start = standing_of(rt, alloc, before);
+    let after = state_after(alloc, &table, count, start).expect(rt, "memory");
+    text_of(rt, alloc, &after)
 }
 
 #[test]
-fn lines_leave_what_they_ask_for(rt: HostRuntime) -> Result<(), Fail> {
+fn lines_leave_what_they_ask_for(rt: HostRuntime) {
     for &(lines, before, after) in ROWS {
-        let seen = left(&rt, rt.alloc(), lines, usize::MAX, before)?;
+        let seen = left(&rt, rt.alloc(), lines, usize::MAX, before);
         assert!(rt; seen.as_bytes() == after.as_bytes(), "{lines}: {seen}");
     }
-    Ok(())
 }
 
 #[test]
-fn first_lines_leave_what_they_ask_for(rt: HostRuntime) -> Result<(), Fail> {
+fn first_lines_leave_what_they_ask_for(rt: HostRuntime) {
     for &(count, after) in COUNTS {
         let lines = "z /a/f 0600;f /a/f;d /a 0700";
-        let seen = left(&rt, rt.alloc(), lines, count, "d / 0755 0 0 - -\n")?;
+        let seen = left(&rt, rt.alloc(), lines, count, "d / 0755 0 0 - -\n");
         assert!(rt; seen.as_bytes() == after.as_bytes(), "{count}: {seen}");
     }
-    Ok(())
 }

@@ -6,13 +6,15 @@ use pv_steps::Node;
 use pv_walk::ObjectState;
 use std::alloc::{AllocError, Global};
 use std::process::Abort;
-use std::test::Fail;
 use test_sheet::{kind_of, letter_of, plain_node};
 
 /// The mode, the owner and the owning group that three fields spell.
-fn numbers_of(mode: &str, uid: &str, gid: &str) -> Result<(u16, u32, u32), Fail> {
-    let mode = u16::from_str_radix(mode, 8)?;
-    Ok((mode, uid.parse::<u32>()?, gid.parse::<u32>()?))
+fn numbers_of(rt: &impl Abort, mode: &str, uid: &str, gid: &str) -> (u16, u32, u32) {
+    (
+        u16::from_str_radix(mode, 8).expect(rt, "a mode"),
+        uid.parse::<u32>().expect(rt, "a UID"),
+        gid.parse::<u32>().expect(rt, "a GID"),
+    )
 }
 
 /// The node of these fields: its kind, mode, owners and ACL.
@@ -22,20 +24,20 @@ fn node_of(
     kind: &str,
     numbers: (u16, u32, u32),
     acl: &str,
-) -> Result<Node, Fail> {
+) -> Node {
     let (mode, uid, gid) = numbers;
-    let acl = read_acl(alloc, acl.as_bytes(), mode, true)?;
+    let acl = read_acl(alloc, acl.as_bytes(), mode, true).expect(rt, "memory");
     let mut node = plain_node(alloc, kind_of(kind), mode);
     node.uid = uid;
     node.gid = gid;
     node.acl = acl.expect(rt, "an ACL");
-    Ok(node)
+    node
 }
 
 /// The object of a node with some bytes or a target, or of a node without any for a dash.
-fn object_state_of(alloc: Global, node: &Node, payload: &str) -> Result<ObjectState, AllocError> {
+fn object_state_of(rt: &impl Abort, alloc: Global, node: &Node, payload: &str) -> ObjectState {
     let payload = if payload == "-" { "" } else { payload };
-    ObjectState::of(alloc, node, payload.as_bytes())
+    ObjectState::of(alloc, node, payload.as_bytes()).expect(rt, "memory")
 }
 
 /// The path of a text, in which staging names may stand.
@@ -49,46 +51,27 @@ fn path_of(alloc: Global, text: &str) -> Result<TreePath, AllocError> {
     Ok(path)
 }
 
-/// Puts an object at the path of a text.
-fn put_at(
-    alloc: Global,
-    standing: &mut Standing,
-    path: &str,
-    object_state: ObjectState,
-) -> Result<(), AllocError> {
-    standing.put(path_of(alloc, path)?, object_state)
-}
-
 /// Puts the object of a text, `KIND PATH MODE UID GID ACL PAYLOAD`.
-fn put_object(
-    rt: &impl Abort,
-    alloc: Global,
-    standing: &mut Standing,
-    object: &str,
-) -> Result<(), Fail> {
-    let fields: Vec<&str> = object.split(' ').collect(alloc)?;
+fn put_object(rt: &impl Abort, alloc: Global, standing: &mut Standing, object: &str) {
+    let fields: Vec<&str> = object.split(' ').collect(alloc).expect(rt, "memory");
     match fields.as_slice() {
         [kind, path, mode, uid, gid, acl, payload] => {
-            let numbers = numbers_of(mode, uid, gid)?;
-            let node = node_of(rt, alloc, kind, numbers, acl)?;
-            Ok(put_at(
-                alloc,
-                standing,
-                path,
-                object_state_of(alloc, &node, payload)?,
-            )?)
+            let node = node_of(rt, alloc, kind, numbers_of(rt, mode, uid, gid), acl);
+            let object_state = object_state_of(rt, alloc, &node, payload);
+            let path = path_of(alloc, path).expect(rt, "memory");
+            standing.put(path, object_state).expect(rt, "memory")
         }
         _ => panic!(rt; "an object: {object}"),
     }
 }
 
 /// The objects of a text.
-pub(crate) fn standing_of(rt: &impl Abort, alloc: Global, text: &str) -> Result<Standing, Fail> {
+pub(crate) fn standing_of(rt: &impl Abort, alloc: Global, text: &str) -> Standing {
     let mut standing = Standing::new(alloc);
     for object in text.lines() {
-        put_object(rt, alloc, &mut standing, object)?;
+        put_object(rt, alloc, &mut standing, object);
     }
-    Ok(standing)
+    standing
 }
 
 /// The text of an object.
@@ -97,31 +80,39 @@ pub(crate) fn object_state_text(
     alloc: Global,
     path: &[u8],
     object_state: &ObjectState,
-) -> Result<String, Fail> {
+) -> String {
     let path = str::from_utf8(path).expect(rt, "a text");
     let kind = letter_of(object_state.body.kind);
-    let mode = object_state
-        .metadata
-        .acl
-        .access
-        .mode(object_state.metadata.special % 8);
-    let uid = object_state.metadata.uid;
-    let gid = object_state.metadata.gid;
-    let acl = print_acl(alloc, &object_state.metadata.acl)?;
+    let metadata = &object_state.metadata;
+    let mode = metadata.acl.access.mode(metadata.special % 8);
+    let (uid, gid) = (metadata.uid, metadata.gid);
+    let acl = print_acl(alloc, &metadata.acl).expect(rt, "memory");
     let acl = str::from_utf8(&acl).expect(rt, "a text");
     let payload = str::from_utf8(object_state.body.payload.as_slice()).expect(rt, "a text");
     let payload = if payload.is_empty() { "-" } else { payload };
-    Ok(format!(in alloc; "{kind} {path} {mode:04o} {uid} {gid} {acl} {payload}\n")?)
+    format!(in alloc; "{kind} {path} {mode:04o} {uid} {gid} {acl} {payload}\n").expect(rt, "memory")
+}
+
+/// Adds the text of the object at a path, if there is one.
+fn add_object(
+    rt: &impl Abort,
+    alloc: Global,
+    text: &mut String,
+    standing: &Standing,
+    path: &TreePath,
+) {
+    if let Some(object_state) = standing.get(path) {
+        let printed = print_path(alloc, path).expect(rt, "memory");
+        let line = object_state_text(rt, alloc, &printed, object_state);
+        text.push_str(&line).expect(rt, "memory");
+    }
 }
 
 /// The text of all that stands.
-pub(crate) fn text_of(rt: &impl Abort, alloc: Global, standing: &Standing) -> Result<String, Fail> {
+pub(crate) fn text_of(rt: &impl Abort, alloc: Global, standing: &Standing) -> String {
     let mut text = String::new(alloc);
-    for path in standing.paths(alloc)? {
-        if let Some(object_state) = standing.get(&path) {
-            let printed = print_path(alloc, &path)?;
-            text.push_str(&object_state_text(rt, alloc, &printed, object_state)?)?;
-        }
+    for path in standing.paths(alloc).expect(rt, "memory") {
+        add_object(rt, alloc, &mut text, standing, &path);
     }
-    Ok(text)
+    text
 }

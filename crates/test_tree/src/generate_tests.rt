@@ -1,10 +1,10 @@
 //! Worked lines and trees of generated runs.
+use crate::step_rows::path_of;
 use pv_generate::{generated_tree, node_count};
-use pv_path::parse_path;
 use pv_steps::Kind;
 use pv_tree::MemTree;
 use std::alloc::Global;
-use std::test::Fail;
+use std::process::Abort;
 
 /// The first lines of the seed 1, of which each form is one.
 const LINES: &str = "d /data/g6/d0 0700 0 0\n\
@@ -33,48 +33,51 @@ const NODES: &[(&str, Kind, &str)] = &[
     ("/data/g2/e10", Kind::File, "old"),
 ];
 
+/// The tree of the seed 1 and so many lines.
+fn tree_of(rt: &impl Abort, alloc: Global, lines: u32) -> MemTree {
+    generated_tree(alloc, 1, lines).expect(rt, "memory")
+}
+
+/// The number of objects in a tree.
+fn count_of(rt: &impl Abort, alloc: Global, tree: &MemTree) -> u64 {
+    node_count(alloc, tree).expect(rt, "memory")
+}
+
 /// Whether an object of this kind with these bytes stands at a path.
 fn stands_at(
+    rt: &impl Abort,
     alloc: Global,
     tree: &MemTree,
     text: &str,
     kind: Kind,
     bytes: &str,
-) -> Result<bool, Fail> {
-    let path = parse_path(alloc, text.as_bytes())?;
+) -> bool {
+    let path = path_of(rt, alloc, text.as_bytes());
     let found = tree.node_at(&path).map(|node| node.kind);
-    Ok(found == Some(kind) && tree.payload_at(&path) == Some(bytes.as_bytes()))
+    found == Some(kind) && tree.payload_at(&path) == Some(bytes.as_bytes())
 }
 
 #[test]
-fn puts_each_node(rt: HostRuntime) -> Result<(), Fail> {
-    let tree = generated_tree(rt.alloc(), 1, 11)?;
-    assert!(rt; node_count(rt.alloc(), &tree)? == 24);
+fn puts_each_node(rt: HostRuntime) {
+    let tree = tree_of(&rt, rt.alloc(), 11);
+    assert!(rt; count_of(&rt, rt.alloc(), &tree) == 24);
     for &(text, kind, bytes) in NODES {
         assert!(rt;
-            stands_at(rt.alloc(), &tree, text, kind, bytes)?,
+            stands_at(&rt, rt.alloc(), &tree, text, kind, bytes),
             "at {text}"
         );
     }
-    Ok(())
-}
-
-/// The text of the configuration of a tree.
-fn configuration_in<'a>(alloc: Global, tree: &'a MemTree) -> Result<&'a [u8], Fail> {
-    let path = parse_path(alloc, b"/etc/tmpfiles.d/gen.conf")?;
-    Ok(tree.payload_at(&path).ok_or("a configuration")?)
 }
 
 #[test]
-fn writes_one_configuration(rt: HostRuntime) -> Result<(), Fail> {
-    let tree = generated_tree(rt.alloc(), 1, 12)?;
-    assert!(rt; configuration_in(rt.alloc(), &tree)? == LINES.as_bytes());
-    Ok(())
+fn writes_one_configuration(rt: HostRuntime) {
+    let tree = tree_of(&rt, rt.alloc(), 12);
+    let path = path_of(&rt, rt.alloc(), b"/etc/tmpfiles.d/gen.conf");
+    assert!(rt; tree.payload_at(&path) == Some(LINES.as_bytes()));
 }
 
 #[test]
-fn puts_fewer_nodes(rt: HostRuntime) -> Result<(), Fail> {
-    let tree = generated_tree(rt.alloc(), 1, 3)?;
-    assert!(rt; node_count(rt.alloc(), &tree)? == 16);
-    Ok(())
+fn puts_fewer_nodes(rt: HostRuntime) {
+    let tree = tree_of(&rt, rt.alloc(), 3);
+    assert!(rt; count_of(&rt, rt.alloc(), &tree) == 16);
 }

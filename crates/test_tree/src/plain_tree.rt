@@ -1,6 +1,6 @@
 //! The tree as a list of paths with their objects in the order of the paths: the plain program beside which the tree
 //! in memory is tried.
-ghost use Rattle.std.specs.Prelude.{◌≡◌, []};
+ghost use Rattle.std.specs.Prelude.{◌≡◌, ◌<◌, [], length};
 ghost use Rattle.pv_steps.specs.declared.node.Kind.TheVariants.{Directory};
 ghost use Rattle.pv_steps.specs.Objects.{fresh};
 
@@ -37,6 +37,24 @@ pub(crate) fn put(
     entries.insert(at, (path, object)).expect(rt, "memory");
 }
 
+/// The place of the object at a path.
+fn place_of(rt: &impl Abort, entries: &Vec<(TreePath, Object)>, path: &TreePath) -> usize
+    ensures { result < length entries.now.items }
+{
+    let place = entries.iter().position(|e| e.0 == *path);
+    place.expect(rt, "an object")
+}
+
+/// The object at a path.
+fn object_at<'a>(
+    rt: &impl Abort,
+    entries: &'a mut Vec<(TreePath, Object)>,
+    path: &TreePath,
+) -> &'a mut Object {
+    let place = place_of(rt, entries, path);
+    &mut entries[place].1
+}
+
 /// Notes at the directory of a path that it gained or lost a child.
 fn touch(
     rt: &impl Abort,
@@ -45,15 +63,10 @@ fn touch(
     path: &TreePath,
     now: u64,
 ) {
-    let up = parent(alloc, path)
-        .expect(rt, "memory")
-        .expect(rt, "a directory");
-    for entry in entries.iter_mut() {
-        if entry.0 == up {
-            entry.1.node.stamps.change = now;
-            entry.1.node.stamps.modify = now;
-        }
-    }
+    let up = parent(alloc, path).expect(rt, "memory");
+    let directory = object_at(rt, entries, &up.expect(rt, "a directory"));
+    directory.node.stamps.change = now;
+    directory.node.stamps.modify = now;
 }
 
 /// Makes an object.
@@ -134,21 +147,6 @@ fn set(node: &mut Node, step: &Step) {
     }
 }
 
-/// Changes the object at a path as a step says.
-fn change_at(
-    rt: &impl Abort,
-    entries: &mut Vec<(TreePath, Object)>,
-    path: &TreePath,
-    step: &Step,
-    now: u64,
-) {
-    for entry in entries.iter_mut() {
-        if entry.0 == *path {
-            change(rt, &mut entry.1, step, now);
-        }
-    }
-}
-
 /// Takes the object at a path out.
 fn take(
     rt: &impl Abort,
@@ -157,15 +155,9 @@ fn take(
     path: &TreePath,
     now: u64,
 ) {
-    take_out(rt, entries, path);
+    let place = place_of(rt, entries, path);
+    let _taken = entries.remove(place);
     touch(rt, alloc, entries, path, now);
-}
-
-/// Takes the entry of a path out.
-fn take_out(rt: &impl Abort, entries: &mut Vec<(TreePath, Object)>, path: &TreePath) {
-    let place = entries.iter().position(|e| e.0 == *path);
-    let at = place.expect(rt, "an object");
-    let _taken = entries.remove(at);
 }
 
 /// Where a path lies after a rename, or nothing if the object there is replaced.
@@ -204,11 +196,7 @@ fn rename(
     *entries = moved;
     touch(rt, alloc, entries, to, now);
     touch(rt, alloc, entries, from, now);
-    for entry in entries.iter_mut() {
-        if entry.0 == *to {
-            entry.1.node.stamps.change = now;
-        }
-    }
+    object_at(rt, entries, to).node.stamps.change = now;
 }
 
 /// Does a step.
@@ -234,7 +222,7 @@ pub(crate) fn apply(
         | Step::SetAcl { path, .. }
         | Step::SetAttrs { path, .. }
         | Step::SetLetters { path, .. }
-        | Step::SetStamps { path, .. } => change_at(rt, entries, path, step, now),
+        | Step::SetStamps { path, .. } => change(rt, object_at(rt, entries, path), step, now),
         Step::Rename { from, to } => rename(rt, alloc, entries, from, to, now),
         Step::Unlink { path } | Step::RemoveDir { path } => take(rt, alloc, entries, path, now),
     }

@@ -1,7 +1,7 @@
 //! Trees as lines of text.
 use pv_acl::{Part, print_acl};
-use pv_path::{Name, add_printed};
-use pv_steps::{Attr, Node, Object};
+use pv_path::{Name, TreePath, add_printed};
+use pv_steps::{Attr, Node, Object, Tree};
 use std::alloc::Global;
 use std::process::Abort;
 use test_sheet::letter_of;
@@ -35,6 +35,22 @@ pub(crate) fn add_path(rt: &impl Abort, output: &mut Vec<u8>, names: &[Name]) {
         add(rt, output, b"/");
         add_printed(output, name.bytes()).expect(rt, "memory");
     }
+}
+
+/// The paths at and below a path, with a space after each.
+pub(crate) fn paths_text<T: Tree>(
+    rt: &impl Abort,
+    alloc: Global,
+    tree: &T,
+    path: &TreePath,
+) -> Vec<u8> {
+    let mut text = Vec::new(alloc);
+    let paths = tree.at_and_below(alloc, path).expect(rt, "memory");
+    for path in &paths {
+        add_path(rt, &mut text, path.names());
+        add(rt, &mut text, b" ");
+    }
+    text
 }
 
 /// Adds the four octal digits of a mode.

@@ -3,23 +3,22 @@ ghost use Rattle.std.specs.Prelude.{◌≡◌, ◌≢◌, [], true, length, nat_
 ghost use Rattle.std.specs.List.{list_all};
 ghost use Rattle.pv_path.specs.Paths.{parent_of, staging_of};
 ghost use Rattle.pv_steps.specs.declared.node.Kind.TheVariants.{Directory};
-ghost use Rattle.pv_steps.specs.Trees.{IsKind};
+ghost use Rattle.pv_steps.specs.Trees.{places, IsAbsentIn, IsKindIn};
 ghost use Rattle.pv_walk.specs.Staging.{HasTarget, IsNewFile, can_stage};
 
-use crate::metadata_tests::acl_of;
-use crate::step_rows::path_of;
+use crate::metadata_tests::give_metadata;
+use crate::shown::paths_text;
+use crate::step_rows::{acl_of, bytes_of, has_parent, path_of};
 use pv_image::{read_image, write_image};
-use pv_path::{Bytes, Name, TreePath, parent, staging};
-use pv_steps::{AttrList, Kind, LetterSet, Tree, Why, is_target};
+use pv_path::{Name, TreePath, staging};
+use pv_steps::{Kind, Tree, Why, is_target};
 use pv_text::Facts;
 use pv_tree::{Fused, MemTree};
 use pv_walk::{
-    Metadata, NewFile, NewKind, TopNode, Walked, publish, remove_below, set_metadata, stage_copy,
-    stage_file, sweep, walk,
+    NewFile, NewKind, TopNode, Walked, publish, remove_below, stage_copy, stage_file, sweep, walk,
 };
-use std::alloc::{AllocError, Global};
+use std::alloc::Global;
 use std::process::Abort;
-use std::test::Fail;
 
 const NOW: u64 = 9;
 
@@ -27,28 +26,15 @@ fn tree_of(rt: &impl Abort, alloc: Global, image: &[u8]) -> MemTree {
     read_image(alloc, image).expect(rt, "an image").tree
 }
 
-/// Adds the path of these names to a text.
-fn add_path(text: &mut Vec<u8>, names: &[Name]) -> Result<(), AllocError> {
-    if names.is_empty() {
-        text.push(b'/')?;
-    }
-    for name in names {
-        text.push(b'/')?;
-        text.extend_from_slice(name.bytes())?;
-    }
-    Ok(())
+/// The paths of a tree, with a space after each.
+fn all_paths(rt: &impl Abort, alloc: Global, tree: &MemTree) -> Vec<u8> {
+    paths_text(rt, alloc, tree, &TreePath::root(alloc))
 }
 
-/// The paths of a tree, with a blank after each.
-fn printed(alloc: Global, tree: &MemTree) -> Result<Vec<u8>, Fail> {
-    let mut text = Vec::new(alloc);
-    let mut walk = tree.walk(alloc)?;
-    while let Some(place) = walk.place() {
-        add_path(&mut text, place.names)?;
-        text.push(b' ')?;
-        walk.advance()?;
-    }
-    Ok(text)
+/// Stops unless a tree has these paths.
+fn expect_paths(rt: &impl Abort, alloc: Global, tree: &MemTree, paths: &[u8]) {
+    let text = all_paths(rt, alloc, tree);
+    assert!(rt; text.as_slice() == paths, "{text:?}");
 }
 
 /// Whether a name leaves room for the five bytes of a staging name.
@@ -64,18 +50,15 @@ fn are_short(names: &[Name]) -> bool
     names.iter().all(|name| is_short(name))
 }
 
-/// Stops unless each name of a path leaves room for a staging name.
-fn expect_short(rt: &impl Abort, path: &TreePath)
-    ensures { can_stage path.now ≡ true }
+/// The path that a text spells, below the root, each name of which leaves room for a staging name.
+fn short_path_of(rt: &impl Abort, alloc: Global, text: &[u8]) -> TreePath
+    ensures short { can_stage result ≡ true }
+    ensures below { result ≢ [] }
 {
+    let path = path_of(rt, alloc, text);
     assert!(rt; are_short(path.names()));
-}
-
-/// Stops at the path of the root.
-fn expect_below_root(rt: &impl Abort, path: &TreePath)
-    ensures { path.now ≢ [] }
-{
     assert!(rt; !path.is_empty());
+    path
 }
 
 /// The staging name of a path.
@@ -89,70 +72,14 @@ fn staging_of(rt: &impl Abort, alloc: Global, path: &TreePath) -> TreePath
     staging(alloc, path).expect(rt, "memory")
 }
 
-/// Stops unless a directory stands at a path.
-fn expect_directory<T: Tree>(rt: &impl Abort, tree: &T, path: &TreePath)
-    ensures { IsKind Directory (T.state tree.now) path.now }
+/// Stops unless a new object can be staged for a path.
+fn expect_room<T: Tree>(rt: &impl Abort, alloc: Global, tree: &T, path: &TreePath)
+    ensures parent { IsKindIn Directory (places (T.state tree.now)) (parent_of path.now) }
+    ensures free { IsAbsentIn (places (T.state tree.now)) (staging_of path.now) }
 {
-    match tree.look(path) {
-        Some(node) => assert!(rt; node.kind == Kind::Directory),
-        None => panic!(rt; "absent"),
-    }
-}
-
-/// Stops unless a directory stands above a path.
-fn expect_parent<T: Tree>(rt: &impl Abort, alloc: Global, tree: &T, path: &TreePath)
-    ensures { IsKind Directory (T.state tree.now) (parent_of path.now) }
-{
-    let Some(up) = parent(alloc, path).expect(rt, "memory") else {
-        panic!(rt; "the root")
-    };
-    expect_directory(rt, tree, &up);
-}
-
-/// Stops unless a target is one that a link may have.
-fn expect_target(rt: &impl Abort, what: &NewKind)
-    ensures { HasTarget what.now }
-{
-    if let NewKind::Link(target) = what {
-        assert!(rt; is_target(target.as_slice()));
-    }
-}
-
-/// Stops unless an object may be made so.
-fn expect_new(rt: &impl Abort, new: &NewFile)
-    ensures { IsNewFile new.now }
-{
-    assert!(rt; new.mode <= 0o7777);
-    assert!(rt; new.uid < u32::MAX && new.gid < u32::MAX);
-    expect_target(rt, &new.what);
-}
-
-/// Publishes what is staged for a path.
-fn publish_at(rt: &impl Abort, alloc: Global, tree: &mut Fused<MemTree>, text: &[u8]) -> bool {
-    let path = path_of(rt, alloc, text);
-    expect_short(rt, &path);
-    expect_below_root(rt, &path);
-    let stage = staging_of(rt, alloc, &path);
-    assert!(rt; tree.look(&stage).is_some());
-    publish(alloc, tree, &path, NOW).is_ok()
-}
-
-/// Stages a new object for a path.
-fn stage_at(
-    rt: &impl Abort,
-    alloc: Global,
-    tree: &mut MemTree,
-    text: &[u8],
-    new: &NewFile,
-) -> bool {
-    expect_new(rt, new);
-    let path = path_of(rt, alloc, text);
-    expect_short(rt, &path);
-    expect_below_root(rt, &path);
-    expect_parent(rt, alloc, tree, &path);
-    let stage = staging_of(rt, alloc, &path);
+    assert!(rt; has_parent(rt, alloc, tree, path));
+    let stage = staging_of(rt, alloc, path);
     assert!(rt; tree.look(&stage).is_none());
-    stage_file(alloc, tree, &path, new, NOW).is_ok()
 }
 
 const DEEP: &[u8] = b"tree-image 1
@@ -166,22 +93,24 @@ f /f 0644 0 0 0,0,0,0 - -
 end
 ";
 
+/// Step limits under which `/a` is removed from `DEEP`, whether all is done, and the paths that are left.
+const REMOVALS: &[(u64, bool, &[u8])] = &[
+    (0, false, b"/ /a /a/b /a/b/c /a/b/d /a/e /f "),
+    (1, false, b"/ /a /a/b /a/b/d /a/e /f "),
+    (2, false, b"/ /a /a/b /a/e /f "),
+    (3, false, b"/ /a /a/e /f "),
+    (4, true, b"/ /a /f "),
+];
+
 #[test]
-fn children_go_in_byte_order_and_directories_last(rt: HostRuntime) -> Result<(), Fail> {
-    let alloc = rt.alloc();
-    for (limit, left) in [
-        (0, b"/ /a /a/b /a/b/c /a/b/d /a/e /f ".as_slice()),
-        (1, b"/ /a /a/b /a/b/d /a/e /f "),
-        (2, b"/ /a /a/b /a/e /f "),
-        (3, b"/ /a /a/e /f "),
-        (4, b"/ /a /f "),
-    ] {
-        let mut tree = Fused::new(tree_of(&rt, alloc, DEEP), Some(limit));
-        let done = remove_below(alloc, &mut tree, &path_of(&rt, alloc, b"/a"), NOW).is_ok();
-        assert!(rt; done == (limit == 4), "{limit}");
-        assert_eq!(rt; printed(alloc, tree.inner())?.as_slice(), left);
+fn children_go_in_byte_order_and_directories_last(rt: HostRuntime) {
+    let path = path_of(&rt, rt.alloc(), b"/a");
+    for &(limit, is_done, left) in REMOVALS {
+        let mut tree = Fused::new(tree_of(&rt, rt.alloc(), DEEP), Some(limit));
+        let done = remove_below(rt.alloc(), &mut tree, &path, NOW).is_ok();
+        assert!(rt; done == is_done, "{limit}");
+        expect_paths(&rt, rt.alloc(), tree.inner(), left);
     }
-    Ok(())
 }
 
 /// Staging names at and above a path, and one beside it.
@@ -197,34 +126,30 @@ f /a/b 0644 0 0 0,0,0,0 - -
 end
 ";
 
+/// Step limits under which `/a/b` is swept in `STAGED`, whether all is done, and the paths that are left.
+const SWEEPS: &[(u64, bool, &[u8])] = &[
+    (1, false, b"/ /.#tf-a /.#tf-z /a /a/.#tf-b /a/.#tf-c /a/b "),
+    (2, false, b"/ /.#tf-z /a /a/.#tf-b /a/.#tf-c /a/b "),
+    (3, true, b"/ /.#tf-z /a /a/.#tf-c /a/b "),
+];
+
 #[test]
-fn staging_names_are_swept_from_the_root(rt: HostRuntime) -> Result<(), Fail> {
-    let alloc = rt.alloc();
-    let path = path_of(&rt, alloc, b"/a/b");
-    expect_short(&rt, &path);
-    for (limit, left) in [
-        (
-            1,
-            b"/ /.#tf-a /.#tf-z /a /a/.#tf-b /a/.#tf-c /a/b ".as_slice(),
-        ),
-        (2, b"/ /.#tf-z /a /a/.#tf-b /a/.#tf-c /a/b "),
-        (3, b"/ /.#tf-z /a /a/.#tf-c /a/b "),
-    ] {
-        let mut tree = Fused::new(tree_of(&rt, alloc, STAGED), Some(limit));
-        let done = sweep(alloc, &mut tree, &path, NOW).is_ok();
-        assert!(rt; done == (limit == 3), "{limit}");
-        assert_eq!(rt; printed(alloc, tree.inner())?.as_slice(), left);
+fn staging_names_are_swept_from_the_root(rt: HostRuntime) {
+    let path = short_path_of(&rt, rt.alloc(), b"/a/b");
+    for &(limit, is_done, left) in SWEEPS {
+        let mut tree = Fused::new(tree_of(&rt, rt.alloc(), STAGED), Some(limit));
+        let done = sweep(rt.alloc(), &mut tree, &path, NOW).is_ok();
+        assert!(rt; done == is_done, "{limit}");
+        expect_paths(&rt, rt.alloc(), tree.inner(), left);
     }
-    Ok(())
 }
 
-/// An image of the root and of some lines.
-fn image_of(alloc: Global, root: &[u8], lines: &[u8]) -> Result<Vec<u8>, Fail> {
-    let mut image = Vec::from_slice(alloc, b"tree-image 2\n")?;
-    image.extend_from_slice(root)?;
-    image.extend_from_slice(lines)?;
-    image.extend_from_slice(b"end\n")?;
-    Ok(image)
+/// An image of these lines.
+fn image_of(rt: &impl Abort, alloc: Global, lines: &[&[u8]]) -> Vec<u8> {
+    let lines = lines.concat(alloc).expect(rt, "memory");
+    [b"tree-image 2\n".as_slice(), &lines, b"end\n"]
+        .concat(alloc)
+        .expect(rt, "memory")
 }
 
 const ROOT: &[u8] = b"d / 0755 0 0 0,0,0,0 - - - -\n";
@@ -236,118 +161,179 @@ const FILE: &[u8] = b"f /.#tf-a 0644 0 0 1,1,1,1 - - - -\n";
 
 const FULL: &[u8] = b"d /.#tf-a 0755 0 0 1,1,1,1 - - - -\nf /.#tf-a/z 0644 0 0 1,1,1,1 - - - -\n";
 
-#[test]
-fn what_is_staged_comes_to_its_path(rt: HostRuntime) -> Result<(), Fail> {
-    let alloc = rt.alloc();
-    for (stage, old, steps, left) in [
-        (FILE, b"".as_slice(), 1, b"/ /a ".as_slice()),
-        (FILE, b"f /a 0600 0 0 2,2,2,2 - - - -\n", 1, b"/ /a "),
-        (
-            FILE,
-            b"d /a 0700 0 0 2,2,2,2 - - - -\nd /a/x 0700 0 0 2,2,2,2 - - - -\nf /a/x/y 0600 0 0 2,2,2,2 - - - -\n",
-            4,
-            b"/ /a ",
-        ),
-        (
-            FULL,
-            b"d /a 0700 0 0 2,2,2,2 - - - -\nf /a/x 0600 0 0 2,2,2,2 - - - -\n",
-            2,
-            b"/ /a /a/z ",
-        ),
-        (FULL, b"f /a 0600 0 0 2,2,2,2 - - - -\n", 2, b"/ /a /a/z "),
-    ] {
-        let mut lines = Vec::from_slice(alloc, stage)?;
-        lines.extend_from_slice(old)?;
-        let image = image_of(alloc, ROOT, &lines)?;
-        for limit in [steps - 1, steps] {
-            let mut tree = Fused::new(tree_of(&rt, alloc, &image), Some(limit));
-            let done = publish_at(&rt, alloc, &mut tree, b"/a");
-            assert!(rt; done == (limit == steps), "{steps}");
-            if done {
-                assert_eq!(rt; printed(alloc, tree.inner())?.as_slice(), left);
-            }
-        }
-    }
-    Ok(())
-}
+/// What is staged for `/a`, what is there before, the steps in which it is published, and the paths that are left.
+const PUBLISHED: &[(&[u8], &[u8], u64, &[u8])] = &[
+    (FILE, b"", 1, b"/ /a "),
+    (FILE, b"f /a 0600 0 0 2,2,2,2 - - - -\n", 1, b"/ /a "),
+    (
+        FILE,
+        b"d /a 0700 0 0 2,2,2,2 - - - -\nd /a/x 0700 0 0 2,2,2,2 - - - -\nf /a/x/y 0600 0 0 2,2,2,2 - - - -\n",
+        4,
+        b"/ /a ",
+    ),
+    (
+        FULL,
+        b"d /a 0700 0 0 2,2,2,2 - - - -\nf /a/x 0600 0 0 2,2,2,2 - - - -\n",
+        2,
+        b"/ /a /a/z ",
+    ),
+    (FULL, b"f /a 0600 0 0 2,2,2,2 - - - -\n", 2, b"/ /a /a/z "),
+];
 
-/// The image after a new object was staged for `/x` in an empty root.
-fn staged(rt: &impl Abort, alloc: Global, new: &NewFile) -> Result<Vec<u8>, Fail> {
-    let mut tree = tree_of(rt, alloc, &image_of(alloc, ROOT, b"")?);
-    assert!(rt; stage_at(rt, alloc, &mut tree, b"/x", new));
-    Ok(write_image(alloc, &tree, &Facts::new(alloc))?)
+/// Publishes what is staged for `/a` in the tree of an image under a step limit. Returns the paths that are left if
+/// all is done.
+fn published(rt: &impl Abort, alloc: Global, image: &[u8], limit: u64) -> Option<Vec<u8>> {
+    let mut tree = Fused::new(tree_of(rt, alloc, image), Some(limit));
+    let path = short_path_of(rt, alloc, b"/a");
+    let stage = staging_of(rt, alloc, &path);
+    assert!(rt; tree.look(&stage).is_some());
+    match publish(alloc, &mut tree, &path, NOW) {
+        Ok(()) => Some(all_paths(rt, alloc, tree.inner())),
+        Err(_) => None,
+    }
 }
 
 #[test]
-fn objects_of_all_kinds_are_staged(rt: HostRuntime) -> Result<(), Fail> {
-    let alloc = rt.alloc();
-    let bytes = Bytes::copy_of(alloc, b"hi")?;
-    let target = Bytes::copy_of(alloc, b"/t")?;
-    let device = NewKind::Device {
-        block: false,
-        major: 5,
-        minor: 1,
-    };
-    let disk = NewKind::Device {
-        block: true,
-        major: 8,
-        minor: 0,
-    };
-    for (what, mode, line) in [
-        (
-            NewKind::Directory,
-            0o1750,
-            b"d /.#tf-x 1750 5 6 9,9,9,9 - - - -\n".as_slice(),
-        ),
-        (
-            NewKind::File(bytes),
-            0o4640,
-            b"f /.#tf-x 4640 5 6 9,9,9,9 - - - aGk=\n",
-        ),
-        (
-            NewKind::Link(target),
-            0o600,
-            b"l /.#tf-x 0777 5 6 9,9,9,9 - - - /t\n",
-        ),
-        (
-            NewKind::Fifo,
-            0o644,
-            b"p /.#tf-x 0644 5 6 9,9,9,9 - - - -\n",
-        ),
-        (device, 0o666, b"c /.#tf-x 0666 5 6 9,9,9,9 - - - 5:1\n"),
-        (disk, 0o660, b"b /.#tf-x 0660 5 6 9,9,9,9 - - - 8:0\n"),
-    ] {
-        let new = NewFile {
-            what,
-            mode,
-            uid: 5,
-            gid: 6,
-        };
-        let image = staged(&rt, alloc, &new)?;
-        assert_eq!(rt;
-            image.as_slice(),
-            image_of(alloc, TOUCHED, line)?.as_slice()
-        );
+fn what_is_staged_comes_to_its_path(rt: HostRuntime) {
+    for &(stage, old, steps, left) in PUBLISHED {
+        let image = image_of(&rt, rt.alloc(), &[ROOT, stage, old]);
+        let stopped = published(&rt, rt.alloc(), &image, steps.saturating_sub(1));
+        assert!(rt; stopped.is_none(), "{steps}");
+        let whole = published(&rt, rt.alloc(), &image, steps);
+        let text = whole.expect(&rt, "published");
+        assert!(rt; text.as_slice() == left, "{steps} {text:?}");
     }
-    Ok(())
 }
 
-/// Stages a copy for a path, its top with what the source has.
-fn stage_copy_at(
+/// A kind, a content or target, the numbers of a device, a mode, and the line of the object that is staged.
+const NEW: &[(Kind, &[u8], u32, u32, u16, &[u8])] = &[
+    (
+        Kind::Directory,
+        b"",
+        0,
+        0,
+        0o1750,
+        b"d /.#tf-x 1750 5 6 9,9,9,9 - - - -\n",
+    ),
+    (
+        Kind::File,
+        b"hi",
+        0,
+        0,
+        0o4640,
+        b"f /.#tf-x 4640 5 6 9,9,9,9 - - - aGk=\n",
+    ),
+    (
+        Kind::Link,
+        b"/t",
+        0,
+        0,
+        0o600,
+        b"l /.#tf-x 0777 5 6 9,9,9,9 - - - /t\n",
+    ),
+    (
+        Kind::Fifo,
+        b"",
+        0,
+        0,
+        0o644,
+        b"p /.#tf-x 0644 5 6 9,9,9,9 - - - -\n",
+    ),
+    (
+        Kind::CharDevice,
+        b"",
+        5,
+        1,
+        0o666,
+        b"c /.#tf-x 0666 5 6 9,9,9,9 - - - 5:1\n",
+    ),
+    (
+        Kind::BlockDevice,
+        b"",
+        8,
+        0,
+        0o660,
+        b"b /.#tf-x 0660 5 6 9,9,9,9 - - - 8:0\n",
+    ),
+];
+
+/// What a new object is.
+fn new_kind(
     rt: &impl Abort,
     alloc: Global,
-    tree: &mut Fused<MemTree>,
-    source: &[u8],
-    text: &[u8],
-) -> bool {
-    let source = path_of(rt, alloc, source);
+    kind: Kind,
+    payload: &[u8],
+    major: u32,
+    minor: u32,
+) -> NewKind {
+    let block = kind == Kind::BlockDevice;
+    match kind {
+        Kind::Directory => NewKind::Directory,
+        Kind::File => NewKind::File(bytes_of(rt, alloc, payload)),
+        Kind::Link => NewKind::Link(bytes_of(rt, alloc, payload)),
+        Kind::Fifo => NewKind::Fifo,
+        Kind::CharDevice | Kind::BlockDevice => NewKind::Device {
+            block,
+            major,
+            minor,
+        },
+    }
+}
+
+/// Stops unless a target is one that a link may have.
+fn expect_target(rt: &impl Abort, what: &NewKind)
+    ensures { HasTarget what.now }
+{
+    if let NewKind::Link(target) = what {
+        assert!(rt; is_target(target.as_slice()));
+    }
+}
+
+/// A new object with an owner of its own.
+fn new_file(rt: &impl Abort, what: NewKind, mode: u16) -> NewFile
+    ensures { IsNewFile result }
+{
+    assert!(rt; mode <= 0o7777);
+    expect_target(rt, &what);
+    NewFile {
+        what,
+        mode,
+        uid: 5,
+        gid: 6,
+    }
+}
+
+/// Stops unless the image of a tree has these lines.
+fn expect_lines(rt: &impl Abort, alloc: Global, tree: &MemTree, lines: &[&[u8]]) {
+    let image = write_image(alloc, tree, &Facts::new(alloc)).expect(rt, "memory");
+    assert!(rt; image == image_of(rt, alloc, lines), "{image:?}");
+}
+
+/// The tree after a new object was staged for `/x` in an empty root.
+fn staged(rt: &impl Abort, alloc: Global, what: NewKind, mode: u16) -> MemTree {
+    let new = new_file(rt, what, mode);
+    let mut tree = tree_of(rt, alloc, &image_of(rt, alloc, &[ROOT]));
+    let path = short_path_of(rt, alloc, b"/x");
+    expect_room(rt, alloc, &tree, &path);
+    assert!(rt; stage_file(alloc, &mut tree, &path, &new, NOW).is_ok());
+    tree
+}
+
+#[test]
+fn objects_of_all_kinds_are_staged(rt: HostRuntime) {
+    for &(kind, payload, major, minor, mode, line) in NEW {
+        let what = new_kind(&rt, rt.alloc(), kind, payload, major, minor);
+        let tree = staged(&rt, rt.alloc(), what, mode);
+        expect_lines(&rt, rt.alloc(), &tree, &[TOUCHED, line]);
+    }
+}
+
+/// Stages a copy of `/s` for `/x`, its top with what the source has.
+fn stage_copy_of(rt: &impl Abort, alloc: Global, tree: &mut Fused<MemTree>) -> bool {
+    let source = path_of(rt, alloc, b"/s");
     assert!(rt; tree.look(&source).is_some());
-    let path = path_of(rt, alloc, text);
-    expect_short(rt, &path);
-    expect_below_root(rt, &path);
-    expect_parent(rt, alloc, tree, &path);
-    let stage = staging_of(rt, alloc, &path);
-    assert!(rt; tree.look(&stage).is_none());
+    let path = short_path_of(rt, alloc, b"/x");
+    expect_room(rt, alloc, tree, &path);
     let top = TopNode {
         mode: None,
         uid: None,
@@ -363,43 +349,47 @@ const SOURCE: &[u8] = b"d /s 0750 1 2 1,1,1,1 - - - -\nf /s/f 0640 3 4 1,1,1,1 -
 const COPIED: &[u8] =
     b"d /.#tf-x 0750 1 2 9,9,9,9 - - - -\nf /.#tf-x/f 0640 3 4 9,9,9,9 - - - aGk=\nd /s 0750 1 2 1,1,1,1 - - - -\nf /s/f 0640 3 4 1,1,1,1 - - - aGk=\n";
 
-#[test]
-fn a_copy_is_staged_whole(rt: HostRuntime) -> Result<(), Fail> {
-    let alloc = rt.alloc();
-    let image = image_of(alloc, ROOT, SOURCE)?;
-    let mut tree = Fused::new(tree_of(&rt, alloc, &image), None);
-    assert!(rt; stage_copy_at(&rt, alloc, &mut tree, b"/s", b"/x"));
-    let left = write_image(alloc, tree.inner(), &Facts::new(alloc))?;
-    assert_eq!(rt;
-        left.as_slice(),
-        image_of(alloc, TOUCHED, COPIED)?.as_slice()
-    );
-    Ok(())
+/// The tree with `SOURCE`, under a step limit.
+fn source_tree(rt: &impl Abort, alloc: Global, limit: Option<u64>) -> Fused<MemTree> {
+    let image = image_of(rt, alloc, &[ROOT, SOURCE]);
+    Fused::new(tree_of(rt, alloc, &image), limit)
 }
 
-/// mkdir, mknod, write, then the owner and the mode of the file, then those of the directory.
 #[test]
-fn a_copied_directory_is_filled_before_it_is_given_away(rt: HostRuntime) -> Result<(), Fail> {
-    let alloc = rt.alloc();
-    let stage = staging_of(&rt, alloc, &path_of(&rt, alloc, b"/x"));
-    let image = image_of(alloc, ROOT, SOURCE)?;
-    for (limit, owner) in [
-        (0, None),
-        (1, Some(0)),
-        (2, Some(0)),
-        (3, Some(0)),
-        (4, Some(0)),
-        (5, Some(0)),
-        (6, Some(1)),
-        (7, Some(1)),
-    ] {
-        let mut tree = Fused::new(tree_of(&rt, alloc, &image), Some(limit));
-        let done = stage_copy_at(&rt, alloc, &mut tree, b"/s", b"/x");
-        assert!(rt; done == (limit == 7), "{limit}");
-        let found = tree.look(&stage).map(|node| node.uid);
+fn a_copy_is_staged_whole(rt: HostRuntime) {
+    let mut tree = source_tree(&rt, rt.alloc(), None);
+    assert!(rt; stage_copy_of(&rt, rt.alloc(), &mut tree));
+    expect_lines(&rt, rt.alloc(), tree.inner(), &[TOUCHED, COPIED]);
+}
+
+/// Step limits, and the owner of the directory that is staged then, if it is there: mkdir, mknod, write, then the owner
+/// and the mode of the file, then those of the directory.
+const OWNERS: &[(u64, Option<u32>)] = &[
+    (0, None),
+    (1, Some(0)),
+    (2, Some(0)),
+    (3, Some(0)),
+    (4, Some(0)),
+    (5, Some(0)),
+    (6, Some(1)),
+    (7, Some(1)),
+];
+
+/// The owner of what is staged for `/x` when `SOURCE` is copied under a step limit, if it is there.
+fn owner_under(rt: &impl Abort, alloc: Global, stage: &TreePath, limit: u64) -> Option<u32> {
+    let mut tree = source_tree(rt, alloc, Some(limit));
+    let done = stage_copy_of(rt, alloc, &mut tree);
+    assert!(rt; done == (limit == 7), "{limit}");
+    tree.look(stage).map(|node| node.uid)
+}
+
+#[test]
+fn a_copied_directory_is_filled_before_it_is_given_away(rt: HostRuntime) {
+    let stage = staging_of(&rt, rt.alloc(), &path_of(&rt, rt.alloc(), b"/x"));
+    for &(limit, owner) in OWNERS {
+        let found = owner_under(&rt, rt.alloc(), &stage, limit);
         assert!(rt; found == owner, "{limit}");
     }
-    Ok(())
 }
 
 /// Directories of another owner, a file and a link.
@@ -412,78 +402,71 @@ d /u/a 0755 1000 0 0,0,0,0 - -
 end
 ";
 
-#[test]
-fn walks_have_their_answers(rt: HostRuntime) -> Result<(), Fail> {
-    let alloc = rt.alloc();
-    let tree = tree_of(&rt, alloc, OWNED);
-    for (text, made, wanted) in [
-        (b"/".as_slice(), 0, Walked::Present),
-        (b"/u/a", 0, Walked::Present),
-        (b"/n/m", 5, Walked::Absent(1)),
-        (b"/u/x", 1000, Walked::Absent(2)),
-        (b"/u/x", 0, Walked::Refused(2, Why::UnsafeOwner)),
-        (b"/u/x/y", 1000, Walked::Refused(2, Why::UnsafeOwner)),
-        (b"/f/x", 0, Walked::Refused(1, Why::NotDirectory)),
-        (b"/s/x", 0, Walked::Refused(1, Why::Link)),
-    ] {
-        let path = path_of(&rt, alloc, text);
-        assert!(rt; path.len() < 4096);
-        let walked = walk(alloc, &tree, &path, made)?;
-        assert!(rt; walked == wanted, "{text:?}");
-    }
-    Ok(())
+/// Paths in that tree, the owner that is made there, and the answers.
+const WALKS: &[(&[u8], u32, Walked)] = &[
+    (b"/", 0, Walked::Present),
+    (b"/u/a", 0, Walked::Present),
+    (b"/n/m", 5, Walked::Absent(1)),
+    (b"/u/x", 1000, Walked::Absent(2)),
+    (b"/u/x", 0, Walked::Refused(2, Why::UnsafeOwner)),
+    (b"/u/x/y", 1000, Walked::Refused(2, Why::UnsafeOwner)),
+    (b"/f/x", 0, Walked::Refused(1, Why::NotDirectory)),
+    (b"/s/x", 0, Walked::Refused(1, Why::Link)),
+];
+
+/// What a walk along a path finds.
+fn walked(rt: &impl Abort, alloc: Global, tree: &MemTree, text: &[u8], made: u32) -> Walked {
+    let path = path_of(rt, alloc, text);
+    assert!(rt; path.len() < 4096);
+    walk(alloc, tree, &path, made).expect(rt, "memory")
 }
 
-/// Gives the directory at a path owners, a mode and an ACL.
-fn metadata_at(
-    rt: &impl Abort,
-    alloc: Global,
-    tree: &mut MemTree,
-    uid: u32,
-    field: &[u8],
-    mode: u16,
-) -> bool {
+#[test]
+fn walks_have_their_answers(rt: HostRuntime) {
+    let tree = tree_of(&rt, rt.alloc(), OWNED);
+    for &(text, made, wanted) in WALKS {
+        let found = walked(&rt, rt.alloc(), &tree, text, made);
+        assert!(rt; found == wanted, "{text:?}");
+    }
+}
+
+/// A directory without metadata of its own.
+const PLAIN: &[u8] = b"d /a 0755 0 0 0,0,0,0 - - - -\n";
+
+/// An owner, an ACL and a mode that the directory gets, in how many steps, and its line after them.
+const GIVEN: &[(u32, &[u8], u16, usize, &[u8])] = &[
+    (0, b"-", 0o755, 0, PLAIN),
+    (
+        0,
+        b"u:5:r--",
+        0o755,
+        1,
+        b"d /a 0755 0 0 0,0,9,0 u:5:r-- - - -\n",
+    ),
+    (7, b"-", 0o700, 2, b"d /a 0700 7 0 0,0,9,0 - - - -\n"),
+    (
+        7,
+        b"m::r--",
+        0o700,
+        3,
+        b"d /a 0700 7 0 0,0,9,0 m::r-- - - -\n",
+    ),
+];
+
+/// The tree after `PLAIN` was given an owner, an ACL and a mode.
+fn given(rt: &impl Abort, alloc: Global, uid: u32, field: &[u8], mode: u16) -> MemTree {
+    let mut tree = tree_of(rt, alloc, &image_of(rt, alloc, &[ROOT, PLAIN]));
     let path = path_of(rt, alloc, b"/a");
-    expect_directory(rt, tree, &path);
-    assert!(rt; uid < u32::MAX);
-    let new = Metadata {
-        uid,
-        gid: 0,
-        special: 0,
-        acl: acl_of(rt, alloc, mode, field),
-        attrs: AttrList::new(alloc),
-        letters: LetterSet::new(),
-    };
-    set_metadata(tree, &path, &new, NOW).is_ok()
+    let acl = acl_of(rt, alloc, mode, field);
+    give_metadata(rt, alloc, &mut tree, &path, uid, acl);
+    tree
 }
 
 #[test]
-fn directories_get_the_metadata_that_they_lack(rt: HostRuntime) -> Result<(), Fail> {
-    let alloc = rt.alloc();
-    let plain = b"d /a 0755 0 0 0,0,0,0 - - - -\n";
-    for (uid, field, mode, steps, line) in [
-        (0, b"-".as_slice(), 0o755, 0, plain.as_slice()),
-        (
-            0,
-            b"u:5:r--",
-            0o755,
-            1,
-            b"d /a 0755 0 0 0,0,9,0 u:5:r-- - - -\n",
-        ),
-        (7, b"-", 0o700, 2, b"d /a 0700 7 0 0,0,9,0 - - - -\n"),
-        (
-            7,
-            b"m::r--",
-            0o700,
-            3,
-            b"d /a 0700 7 0 0,0,9,0 m::r-- - - -\n",
-        ),
-    ] {
-        let mut tree = tree_of(&rt, alloc, &image_of(alloc, ROOT, plain)?);
-        assert!(rt; metadata_at(&rt, alloc, &mut tree, uid, field, mode));
+fn directories_get_the_metadata_that_they_lack(rt: HostRuntime) {
+    for &(uid, field, mode, steps, line) in GIVEN {
+        let tree = given(&rt, rt.alloc(), uid, field, mode);
         assert_eq!(rt; tree.step_count(), steps);
-        let image = write_image(alloc, &tree, &Facts::new(alloc))?;
-        assert_eq!(rt; image.as_slice(), image_of(alloc, ROOT, line)?.as_slice());
+        expect_lines(&rt, rt.alloc(), &tree, &[ROOT, line]);
     }
-    Ok(())
 }

@@ -10,7 +10,7 @@ ghost use Rattle.pv_steps.specs.Steps.{Can, HasRoom, IsOther, Movable, TakesAcl,
 
 use pv_acl::{Acl, Named, Part, Who, number, read_acl};
 use pv_path::{Bytes, TreePath, is_prefix, parent, parse_path};
-use pv_steps::{Kind, Step, Tree, TreeFault, is_directory, is_target, kind_at};
+use pv_steps::{AttrList, Kind, Step, Tree, TreeFault, is_directory, is_target, kind_at};
 use std::alloc::Global;
 use std::process::Abort;
 use test_sheet::{attrs_of, letters_of};
@@ -58,9 +58,18 @@ fn mode_of(rt: &impl Abort, text: &[u8]) -> u16 {
 }
 
 /// The ACL that a field spells beside a mode.
-fn acl_of(rt: &impl Abort, alloc: Global, mode: &[u8], field: &[u8]) -> Acl {
-    let acl = read_acl(alloc, field, mode_of(rt, mode), true).expect(rt, "memory");
-    acl.expect(rt, "an ACL")
+pub(crate) fn acl_of(rt: &impl Abort, alloc: Global, mode: u16, field: &[u8]) -> Acl
+    ensures { is_acl result ≡ true }
+{
+    match read_acl(alloc, field, mode, true).expect(rt, "memory") {
+        Some(acl) => acl,
+        None => panic!(rt; "no ACL"),
+    }
+}
+
+/// The attributes of some rows, put in turn.
+pub(crate) fn attrs_in(rt: &impl Abort, alloc: Global, rows: &[(&[u8], &[u8])]) -> AttrList {
+    attrs_of(alloc, rows).expect(rt, "memory")
 }
 
 /// A step at a path alone.
@@ -130,11 +139,11 @@ fn step_with_two(
         },
         b"setfacl" => Step::SetAcl {
             path,
-            acl: acl_of(rt, alloc, first, second),
+            acl: acl_of(rt, alloc, mode_of(rt, first), second),
         },
         b"setfattr" => Step::SetAttrs {
             path,
-            attrs: attrs_of(alloc, &[(first, second)]).expect(rt, "memory"),
+            attrs: attrs_in(rt, alloc, &[(first, second)]),
         },
         _ => panic!(rt; "no step"),
     }
@@ -173,7 +182,7 @@ fn is_other<T: Tree>(tree: &T, path: &TreePath, kind: Kind) -> bool
 }
 
 /// Whether a path lies in a directory.
-fn has_parent<T: Tree>(rt: &impl Abort, alloc: Global, tree: &T, path: &TreePath) -> bool
+pub(crate) fn has_parent<T: Tree>(rt: &impl Abort, alloc: Global, tree: &T, path: &TreePath) -> bool
     ensures { IsTrue result → IsKindIn Directory (places (T.state tree.now)) (parent_of path.now) }
 {
     match parent(alloc, path).expect(rt, "memory") {
@@ -332,11 +341,11 @@ fn do_step<T: Tree>(
     rt: &impl Abort,
     alloc: Global,
     tree: &mut T,
-    step: &Step,
+    step: Step,
     now: u64,
 ) -> Result<(), TreeFault> {
-    assert!(rt; can(rt, alloc, tree, step));
-    tree.step(step, now)
+    assert!(rt; can(rt, alloc, tree, &step));
+    tree.step(&step, now)
 }
 
 /// Does the step of a line: the moment, what is done, the path, and up to two words more, with one space
@@ -348,11 +357,8 @@ pub(crate) fn perform<T: Tree>(
     line: &[u8],
 ) -> Result<(), TreeFault> {
     let words = pieces_of(rt, alloc, line, b' ');
-    match words.as_slice() {
-        [now, words @ ..] => {
-            let step = step_of(rt, alloc, words);
-            do_step(rt, alloc, tree, &step, number_of(rt, now))
-        }
-        [] => panic!(rt; "no step"),
-    }
+    assert!(rt; !words.is_empty());
+    let now = number_of(rt, words[0]);
+    let step = step_of(rt, alloc, &words[1..]);
+    do_step(rt, alloc, tree, step, now)
 }

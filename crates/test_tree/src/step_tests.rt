@@ -1,8 +1,9 @@
 //! Rows of attributes and letters.
+use crate::step_rows::attrs_in;
 use pv_steps::{AttrList, LetterHow, LetterSet, is_attr, is_attr_name};
-use std::alloc::{AllocError, Global};
-use std::test::Fail;
-use test_sheet::{attr_of, attrs_of, letters_of};
+use std::alloc::Global;
+use std::process::Abort;
+use test_sheet::{attr_of, letters_of};
 
 /// Names, and whether attributes may have them.
 const NAMES: &[(&[u8], bool)] = &[
@@ -27,16 +28,19 @@ fn names_of_attributes_are_told(rt: HostRuntime) {
 }
 
 /// The list of two attributes, each at its end.
-fn pushed(alloc: Global) -> Result<AttrList, AllocError> {
+fn pushed(rt: &impl Abort, alloc: Global) -> AttrList {
     let mut list = AttrList::new(alloc);
-    list.push(attr_of(alloc, b"user.a", b"")?)?;
-    list.push(attr_of(alloc, b"user.b", b"2")?)?;
-    Ok(list)
+    let first = attr_of(alloc, b"user.a", b"").expect(rt, "memory");
+    list.push(first).expect(rt, "memory");
+    let second = attr_of(alloc, b"user.b", b"2").expect(rt, "memory");
+    list.push(second).expect(rt, "memory");
+    list
 }
 
 /// Whether the attributes of some rows, put in turn, are those of another list.
-fn are_put(alloc: Global, rows: &[(&[u8], &[u8])], wanted: &AttrList) -> Result<bool, Fail> {
-    Ok(attrs_of(alloc, rows)?.copy()?.is_same(wanted))
+fn are_put(rt: &impl Abort, alloc: Global, rows: &[(&[u8], &[u8])], wanted: &AttrList) -> bool {
+    let put = attrs_in(rt, alloc, rows);
+    put.copy().expect(rt, "memory").is_same(wanted)
 }
 
 /// Attributes to put, the last of which has a name that is none.
@@ -48,48 +52,47 @@ const ROWS: &[(&[u8], &[u8])] = &[
 ];
 
 #[test]
-fn attributes_are_put_in_order(rt: HostRuntime) -> Result<(), Fail> {
-    let wanted = pushed(rt.alloc())?;
-    assert!(rt; are_put(rt.alloc(), ROWS, &wanted)?);
-    assert!(rt; are_put(rt.alloc(), &ROWS[1..], &wanted)?);
-    assert!(rt; !are_put(rt.alloc(), &ROWS[..2], &wanted)?);
-    Ok(())
+fn attributes_are_put_in_order(rt: HostRuntime) {
+    let rows = ROWS;
+    let wanted = pushed(&rt, rt.alloc());
+    assert!(rt; are_put(&rt, rt.alloc(), rows, &wanted));
+    assert!(rt; are_put(&rt, rt.alloc(), &rows[1..], &wanted));
+    assert!(rt; !are_put(&rt, rt.alloc(), &rows[..2], &wanted));
 }
 
 #[test]
-fn attributes_are_some(rt: HostRuntime) -> Result<(), Fail> {
+fn attributes_are_some(rt: HostRuntime) {
+    let rows = ROWS;
     let none = AttrList::new(rt.alloc());
-    assert!(rt; !are_put(rt.alloc(), &ROWS[..3], &none)?);
-    assert!(rt; !attrs_of(rt.alloc(), &ROWS[..2])?.is_empty());
-    Ok(())
+    assert!(rt; !are_put(&rt, rt.alloc(), &rows[..3], &none));
+    assert!(rt; !attrs_in(&rt, rt.alloc(), &rows[..2]).is_empty());
 }
 
 /// The first two attributes with the third.
-fn with_third(alloc: Global) -> Result<AttrList, Fail> {
-    let first = attrs_of(alloc, &ROWS[..2])?;
-    let later = attrs_of(alloc, &ROWS[2..3])?;
-    Ok(first.with_all(&later)?)
+fn with_third(rt: &impl Abort, alloc: Global) -> AttrList {
+    let rows = ROWS;
+    let first = attrs_in(rt, alloc, &rows[..2]);
+    let later = attrs_in(rt, alloc, &rows[2..3]);
+    first.with_all(&later).expect(rt, "memory")
 }
 
 #[test]
-fn lists_are_put_in_order(rt: HostRuntime) -> Result<(), Fail> {
-    let wanted = pushed(rt.alloc())?;
-    assert!(rt; with_third(rt.alloc())?.is_same(&wanted));
-    Ok(())
+fn lists_are_put_in_order(rt: HostRuntime) {
+    let wanted = pushed(&rt, rt.alloc());
+    assert!(rt; with_third(&rt, rt.alloc()).is_same(&wanted));
 }
 
 /// Whether a set has these letters.
-fn has_letters(alloc: Global, set: LetterSet, letters: &[u8]) -> Result<bool, Fail> {
-    Ok(set.letters(alloc)?.as_slice() == letters)
+fn has_letters(rt: &impl Abort, alloc: Global, set: LetterSet, letters: &[u8]) -> bool {
+    set.letters(alloc).expect(rt, "memory").as_slice() == letters
 }
 
 #[test]
-fn letters_are_told(rt: HostRuntime) -> Result<(), Fail> {
+fn letters_are_told(rt: HostRuntime) {
     let all = letters_of(b"utsjiedcaTSPDCAz");
     let few = letters_of(b"ia");
-    assert!(rt; has_letters(rt.alloc(), all, b"ACDPSTacdeijstu")?);
-    assert!(rt; has_letters(rt.alloc(), all.without(few), b"ACDPSTcdejstu")?);
-    Ok(())
+    assert!(rt; has_letters(&rt, rt.alloc(), all, b"ACDPSTacdeijstu"));
+    assert!(rt; has_letters(&rt, rt.alloc(), all.without(few), b"ACDPSTcdejstu"));
 }
 
 #[test]

@@ -6,9 +6,9 @@ ghost use Rattle.pv_steps.specs.Trees.{places};
 ghost use Rattle.pv_tree.specs.Finding.{IsRising};
 
 use crate::plain_tree::{apply, entries_text, put, root_object, root_tree};
-use crate::shown::{add_object, add_path};
+use crate::shown::{add_object, add_path, paths_text};
 use crate::step_rows::{bytes_of, can, has_room, is_kind, path_of, perform, pieces_of, step_of};
-use pv_path::{Bytes, TreePath, print_path};
+use pv_path::{Bytes, TreePath};
 use pv_steps::{Kind, Object, Step, Tree};
 use pv_tree::{BuildFault, Fused, MemTree, Probe, TreeBuilder, WalkEntry, find};
 use std::alloc::Global;
@@ -64,13 +64,17 @@ fn run(rt: &impl Abort, alloc: Global, tree: &mut MemTree, steps: &[u8]) {
     }
 }
 
-/// Adds the line of a place. Its object is copied before it is shown.
-fn add_place(rt: &impl Abort, alloc: Global, text: &mut Vec<u8>, place: &WalkEntry<'_>) {
-    let object = Object {
+/// A copy of the object of a place.
+fn object_of(rt: &impl Abort, alloc: Global, place: &WalkEntry<'_>) -> Object {
+    Object {
         node: place.node.copy().expect(rt, "memory"),
         payload: bytes_of(rt, alloc, place.payload),
-    };
-    let copy = object.copy().expect(rt, "memory");
+    }
+}
+
+/// Adds the line of a place. Its object is copied before it is shown.
+fn add_place(rt: &impl Abort, alloc: Global, text: &mut Vec<u8>, place: &WalkEntry<'_>) {
+    let copy = object_of(rt, alloc, place).copy().expect(rt, "memory");
     add_object(rt, alloc, text, place.names, &copy);
 }
 
@@ -434,38 +438,26 @@ fn looks_for_names_beside_a_path(rt: HostRuntime) {
     }
 }
 
-/// Paths, and the paths at and below them in the tree of `ANYWHERE`, each after a space.
+/// Paths, and the paths at and below them in the tree of `ANYWHERE`, with a space after each.
 const AT_AND_BELOW: &[(&[u8], &[u8])] = &[
-    (b"/", b" / /a /a/f /m /m/l /z /z/f"),
-    (b"/a", b" /a /a/f"),
-    (b"/m/l", b" /m/l"),
+    (b"/", b"/ /a /a/f /m /m/l /z /z/f "),
+    (b"/a", b"/a /a/f "),
+    (b"/m/l", b"/m/l "),
     (b"/a/f/x", b""),
     (b"/a/q", b""),
     (b"/q/q", b""),
-    (b"/z", b" /z /z/f"),
+    (b"/z", b"/z /z/f "),
 ];
-
-/// The paths at and below a path, each after a space.
-fn text_at_and_below<T: Tree>(rt: &impl Abort, alloc: Global, tree: &T, text: &[u8]) -> Vec<u8> {
-    let path = path_of(rt, alloc, text);
-    let mut listed = Vec::new(alloc);
-    let paths = tree.at_and_below(alloc, &path).expect(rt, "memory");
-    for path in &paths {
-        listed.push(b' ').expect(rt, "memory");
-        let printed = print_path(alloc, path).expect(rt, "memory");
-        listed.extend_from_slice(&printed).expect(rt, "memory");
-    }
-    listed
-}
 
 #[test]
 fn lists_at_and_below(rt: HostRuntime) {
     let tree = Fused::new(added_anywhere(&rt, rt.alloc()), None);
-    for &(path, paths) in AT_AND_BELOW {
-        let found = text_at_and_below(&rt, rt.alloc(), tree.inner(), path);
-        assert!(rt; found.as_slice() == paths, "{path:?} {found:?}");
-        let limited = text_at_and_below(&rt, rt.alloc(), &tree, path);
-        assert!(rt; limited.as_slice() == paths, "{path:?} {limited:?}");
+    for &(text, paths) in AT_AND_BELOW {
+        let path = path_of(&rt, rt.alloc(), text);
+        let found = paths_text(&rt, rt.alloc(), tree.inner(), &path);
+        assert!(rt; found.as_slice() == paths, "{text:?} {found:?}");
+        let limited = paths_text(&rt, rt.alloc(), &tree, &path);
+        assert!(rt; limited.as_slice() == paths, "{text:?} {limited:?}");
     }
 }
 
@@ -524,68 +516,49 @@ fn add_random_path(rt: &impl Abort, random: &mut Random, text: &mut Vec<u8>) {
     }
 }
 
-/// What is done at a path, and the words behind the path.
-const DEEDS: [(&[u8], &[u8]); 20] = [
-    (b"mkdir ", b""),
-    (b"mkdir ", b""),
-    (b"mkfile ", b""),
-    (b"mkfifo ", b""),
-    (b"mknod ", b" b"),
-    (b"mknod ", b" c"),
-    (b"symlink ", b" ../x"),
-    (b"write ", b" one"),
-    (b"write ", b" two"),
-    (b"chmod ", b" 4750"),
-    (b"chmod ", b" 0604"),
-    (b"chown ", b" 5 6"),
-    (b"setfacl ", b" 0750 u:1000:rw-,m::r--"),
-    (b"setfacl ", b" 0711 d:u::rwx,d:g::r-x,d:o::---"),
-    (b"setfattr ", b" user.a 1"),
-    (b"chattr ", b" i"),
-    (b"utime ", b" 60 61"),
-    (b"rename ", b" "),
-    (b"unlink ", b""),
-    (b"rmdir ", b""),
+/// What is done, in words, with `@` for each path.
+const DEEDS: [&[u8]; 20] = [
+    b"mkdir @",
+    b"mkdir @",
+    b"mkfile @",
+    b"mkfifo @",
+    b"mknod @ b",
+    b"mknod @ c",
+    b"symlink @ ../x",
+    b"write @ one",
+    b"write @ two",
+    b"chmod @ 4750",
+    b"chmod @ 0604",
+    b"chown @ 5 6",
+    b"setfacl @ 0750 u:1000:rw-,m::r--",
+    b"setfacl @ 0711 d:u::rwx,d:g::r-x,d:o::---",
+    b"setfattr @ user.a 1",
+    b"chattr @ i",
+    b"utime @ 60 61",
+    b"rename @ @",
+    b"unlink @",
+    b"rmdir @",
 ];
 
-/// The words of a step.
-fn add_random_step(rt: &impl Abort, random: &mut Random, action: usize, text: &mut Vec<u8>)
-    requires { action < 20 }
-{
-    let (what, rest) = DEEDS[action];
-    text.extend_from_slice(what).expect(rt, "memory");
-    add_random_path(rt, random, text);
-    text.extend_from_slice(rest).expect(rt, "memory");
-    if rest == b" ".as_slice() {
-        add_random_path(rt, random, text);
+/// The words of a step, with a pseudo-random path for each `@`.
+fn random_words(rt: &impl Abort, alloc: Global, random: &mut Random, deed: &[u8]) -> Vec<u8> {
+    let mut text = Vec::new(alloc);
+    for byte in deed {
+        match *byte {
+            b'@' => add_random_path(rt, random, &mut text),
+            other => text.push(other).expect(rt, "memory"),
+        }
     }
+    text
 }
 
 /// A pseudo-random step.
 fn random_step(rt: &impl Abort, alloc: Global, random: &mut Random, action: usize) -> Step
     requires { action < 20 }
 {
-    let mut text = Vec::new(alloc);
-    add_random_step(rt, random, action, &mut text);
+    let text = random_words(rt, alloc, random, DEEDS[action]);
     let words = pieces_of(rt, alloc, text.as_slice(), b' ');
     step_of(rt, alloc, words.as_slice())
-}
-
-/// Does a step in a tree and in a list, where it may be done. Whether it was done.
-fn run_beside(
-    rt: &impl Abort,
-    alloc: Global,
-    tree: &mut MemTree,
-    entries: &mut Vec<(TreePath, Object)>,
-    step: &Step,
-    now: u64,
-) -> bool {
-    if !can(rt, alloc, tree, step) {
-        return false;
-    }
-    assert!(rt; tree.step(step, now).is_ok());
-    apply(rt, alloc, entries, step, now);
-    true
 }
 
 /// Stops unless a tree and a list hold the same.
@@ -601,21 +574,21 @@ fn root_entries(rt: &impl Abort, alloc: Global) -> Vec<(TreePath, Object)> {
     entries
 }
 
-/// Does a pseudo-random step in a tree and in a list, and counts it, where it may be done.
-fn run_random(
+/// Does a step in a tree and in a list, where it may be done. Whether it was done.
+fn run_beside(
     rt: &impl Abort,
     alloc: Global,
-    random: &mut Random,
     tree: &mut MemTree,
     entries: &mut Vec<(TreePath, Object)>,
-    done: &mut [u64; 20],
+    step: &Step,
     now: u64,
-) {
-    let action = next(random, 20) as usize;
-    let step = random_step(rt, alloc, random, action);
-    if run_beside(rt, alloc, tree, entries, &step, now) {
-        done[action] = done[action].wrapping_add(1);
+) -> bool {
+    let may = can(rt, alloc, tree, step);
+    if may {
+        assert!(rt; tree.step(step, now).is_ok());
+        apply(rt, alloc, entries, step, now);
     }
+    may
 }
 
 #[test]
@@ -626,15 +599,11 @@ fn runs_as_the_sorted_list(rt: HostRuntime) {
     let mut random = Random { state: 1 };
     let mut done = [0u64; 20];
     for now in 1..=12_000u64 {
-        run_random(
-            &rt,
-            alloc,
-            &mut random,
-            &mut tree,
-            &mut entries,
-            &mut done,
-            now,
-        );
+        let action = next(&mut random, 20) as usize;
+        let step = random_step(&rt, alloc, &mut random, action);
+        if run_beside(&rt, alloc, &mut tree, &mut entries, &step, now) {
+            done[action] = done[action].wrapping_add(1);
+        }
         if now % 8 == 0 {
             expect_same(&rt, alloc, &tree, &entries);
         }
