@@ -1,5 +1,6 @@
 //! The words of a call, and answers that many calls tell.
 use std::alloc::{AllocError, Global};
+use std::fmt::Display;
 use test_sheet::bytes_of;
 
 /// The words behind a call, each as the bytes that it spells.
@@ -57,14 +58,33 @@ pub(crate) fn new_messages(alloc: Global, text: &str) -> Result<Vec<u8>, AllocEr
     Vec::from_slice(alloc, text.as_bytes())
 }
 
+/// What is printed of a value.
+pub(crate) fn shown<T: Display>(alloc: Global, value: &T) -> Result<Vec<u8>, AllocError> {
+    Ok(value.to_string(alloc)?.into_bytes())
+}
+
+/// Bytes with more bytes after them.
+pub(crate) fn joined(alloc: Global, bytes: &[u8], more: &[u8]) -> Result<Vec<u8>, AllocError> {
+    let mut all = Vec::from_slice(alloc, bytes)?;
+    all.extend_from_slice(more)?;
+    Ok(all)
+}
+
+/// Bytes, a blank, and more bytes.
+pub(crate) fn spaced(bytes: Vec<u8>, more: &[u8]) -> Result<Vec<u8>, AllocError> {
+    let mut all = bytes;
+    all.push(b' ')?;
+    all.extend_from_slice(more)?;
+    Ok(all)
+}
+
 /// The name of a fault, and what is printed of it where that is another text.
-pub(crate) fn named(alloc: Global, name: &[u8], printed: &str) -> Result<Vec<u8>, AllocError> {
-    let mut answer_to = Vec::from_slice(alloc, name)?;
-    if printed.as_bytes() != name {
-        answer_to.extend_from_slice(b", printed as ")?;
-        answer_to.extend_from_slice(printed.as_bytes())?;
+pub(crate) fn named(alloc: Global, name: &[u8], printed: &[u8]) -> Result<Vec<u8>, AllocError> {
+    if printed == name {
+        Vec::from_slice(alloc, name)
+    } else {
+        joined(alloc, &joined(alloc, name, b", printed as ")?, printed)
     }
-    Ok(answer_to)
 }
 
 /// The answer to words that a call cannot read.
@@ -83,7 +103,7 @@ pub(crate) fn or_none(alloc: Global, found: Option<&[u8]>) -> Result<Vec<u8>, Al
 /// A number that was found, or that there is none.
 pub(crate) fn id_or_none(alloc: Global, found: Option<u32>) -> Result<Vec<u8>, AllocError> {
     match found {
-        Some(id) => Ok(format!(in alloc; "{id}")?.into_bytes()),
+        Some(id) => shown(alloc, &id),
         None => new_messages(alloc, "none"),
     }
 }

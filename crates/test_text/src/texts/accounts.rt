@@ -143,14 +143,26 @@ fn in_use<'a>(
 
 /// What a call on the numbers in use by a file of groups, and by one more group, answers.
 fn in_use_answer(alloc: Global, call: &str, arguments: &Arguments) -> Result<Vec<u8>, AllocError> {
-    let Some(id) = small(arguments.at(1)) else {
-        return unread(alloc);
-    };
-    let ids = in_use(alloc, arguments.at(2), arguments.at(0), id)?;
+    match small(arguments.at(1)) {
+        Some(id) => {
+            let ids = in_use(alloc, arguments.at(2), arguments.at(0), id)?;
+            ids_answer(alloc, call, &ids, arguments)
+        }
+        None => unread(alloc),
+    }
+}
+
+/// What a call on numbers in use answers.
+fn ids_answer(
+    alloc: Global,
+    call: &str,
+    ids: &InUse<'_>,
+    arguments: &Arguments,
+) -> Result<Vec<u8>, AllocError> {
     match call {
         "in-use-id" => id_or_none(alloc, ids.id_of(arguments.at(3))),
-        "in-use-held" => held_answer(alloc, &ids, arguments.at(3), None),
-        _ => held_answer(alloc, &ids, arguments.at(3), Some(arguments.at(4))),
+        "in-use-held" => held_answer(alloc, ids, arguments.at(3), None),
+        _ => held_answer(alloc, ids, arguments.at(3), Some(arguments.at(4))),
     }
 }
 

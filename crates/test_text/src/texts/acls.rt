@@ -1,9 +1,9 @@
 //! ACL texts, and what lines make of ACLs.
 use super::given::People;
-use crate::marks::{Arguments, new_messages, octal_in, unread};
+use crate::marks::{Arguments, new_messages, octal_in, shown, spaced, unread};
 use pv_acl::{
-    Acl, AclFault, AclLine, Entry, How, Named, NamedList, Who, apply_entries, effective_mask,
-    parse_acl, print_acl, read_acl,
+    Acl, AclLine, Entry, How, Named, NamedList, Who, apply_entries, effective_mask, parse_acl,
+    print_acl, read_acl,
 };
 use std::alloc::{AllocError, Global};
 
@@ -35,22 +35,21 @@ pub(crate) fn answer_to(
 
 /// What a call on the ACL that a line makes of a mode answers.
 fn part_answer(alloc: Global, call: &str, arguments: &Arguments) -> Result<Vec<u8>, AllocError> {
-    let (mode, line, how) = (arguments.at(0), arguments.at(1), arguments.at(2));
-    let Some(acl) = acl_of(alloc, mode, line, how)? else {
-        return new_messages(alloc, "no ACL");
-    };
-    match call {
-        "mask" => mask_answer(alloc, &acl),
-        "minimal" => minimal_answer(alloc, &acl),
-        "special-mode" => special_answer(alloc, &acl, arguments.at(3)),
-        "with-base" => base_answer(alloc, acl, arguments.at(3)),
-        _ => unread(alloc),
+    match acl_of(alloc, arguments.at(0), arguments.at(1), arguments.at(2))? {
+        Some(acl) => part_of(alloc, call, acl, arguments.at(3)),
+        None => new_messages(alloc, "no ACL"),
     }
 }
 
-/// A fault of a text by its name.
-fn fault_answer(alloc: Global, fault: AclFault) -> Result<Vec<u8>, AllocError> {
-    Ok(format!(in alloc; "{fault}")?.into_bytes())
+/// What a call on an ACL answers.
+fn part_of(alloc: Global, call: &str, acl: Acl, bits: &[u8]) -> Result<Vec<u8>, AllocError> {
+    match call {
+        "mask" => shown(alloc, &effective_mask(&acl.access).bits),
+        "minimal" => shown(alloc, &acl.is_minimal()),
+        "special-mode" => special_answer(alloc, &acl, bits),
+        "with-base" => base_answer(alloc, acl, bits),
+        _ => unread(alloc),
+    }
 }
 
 /// A named entry: whom it speaks of, and its permissions.
@@ -62,13 +61,18 @@ fn named_word(alloc: Global, named: Named) -> Result<String, AllocError> {
     }
 }
 
+/// The name of a class, and its permissions.
+fn class_word(alloc: Global, class: &str, bits: u8) -> Result<String, AllocError> {
+    format!(in alloc; " {class} {bits}")
+}
+
 /// An entry: its place, and its permissions.
 fn entry_word(alloc: Global, entry: Entry) -> Result<String, AllocError> {
     match entry {
-        Entry::Owner(perm) => format!(in alloc; " owner {}", perm.bits),
-        Entry::Group(perm) => format!(in alloc; " group {}", perm.bits),
-        Entry::Other(perm) => format!(in alloc; " other {}", perm.bits),
-        Entry::Mask(perm) => format!(in alloc; " mask {}", perm.bits),
+        Entry::Owner(perm) => class_word(alloc, "owner", perm.bits),
+        Entry::Group(perm) => class_word(alloc, "group", perm.bits),
+        Entry::Other(perm) => class_word(alloc, "other", perm.bits),
+        Entry::Mask(perm) => class_word(alloc, "mask", perm.bits),
         Entry::Named(named) => named_word(alloc, named),
     }
 }
@@ -99,7 +103,7 @@ fn line_answer(alloc: Global, line: &AclLine) -> Result<Vec<u8>, AllocError> {
 fn entries_answer(alloc: Global, text: &[u8]) -> Result<Vec<u8>, AllocError> {
     match parse_acl(alloc, text, &People) {
         Ok(line) => line_answer(alloc, &line),
-        Err(fault) => fault_answer(alloc, fault),
+        Err(fault) => shown(alloc, &fault),
     }
 }
 
@@ -111,23 +115,26 @@ fn how_in(word: &[u8]) -> How {
     }
 }
 
+/// What a line makes of an ACL that says what a mode says.
+fn applied(alloc: Global, mode: u16, line: &AclLine, how: &[u8]) -> Result<Acl, AllocError> {
+    apply_entries(alloc, &Acl::of_mode(alloc, mode), line, how_in(how), false)
+}
+
 /// What a line makes of the ACL of a mode.
 fn acl_of(alloc: Global, mode: &[u8], line: &[u8], how: &[u8]) -> Result<Option<Acl>, AllocError> {
-    let Some(mode) = octal_in(mode) else {
-        return Ok(None);
-    };
-    let Some(line) = parse_acl(alloc, line, &People).ok() else {
-        return Ok(None);
-    };
-    let plain = Acl::of_mode(alloc, mode);
-    Ok(Some(apply_entries(alloc, &plain, &line, how_in(how), false)?))
+    match (octal_in(mode), parse_acl(alloc, line, &People).ok()) {
+        (Some(mode), Some(line)) => Ok(Some(applied(alloc, mode, &line, how)?)),
+        _ => Ok(None),
+    }
 }
 
 /// The mode of the base entries of an ACL, and its text.
 fn acl_answer(alloc: Global, acl: &Acl) -> Result<Vec<u8>, AllocError> {
-    let mut answer_to = format!(in alloc; "{:o} ", acl.access.mode(0))?.into_bytes();
-    answer_to.extend_from_slice(&print_acl(alloc, acl)?)?;
-    Ok(answer_to)
+    let text = print_acl(alloc, acl)?;
+    spaced(
+        shown(alloc, &format_args!("{:o}", acl.access.mode(0)))?,
+        &text,
+    )
 }
 
 /// What a line makes of an ACL.
@@ -147,25 +154,15 @@ fn changed_answer(
             alloc,
             &apply_entries(alloc, &old, &line, how_in(how), directory)?,
         ),
-        Err(fault) => fault_answer(alloc, fault),
+        Err(fault) => shown(alloc, &fault),
     }
-}
-
-/// The effective mask of an ACL.
-fn mask_answer(alloc: Global, acl: &Acl) -> Result<Vec<u8>, AllocError> {
-    Ok(format!(in alloc; "{}", effective_mask(&acl.access).bits)?.into_bytes())
-}
-
-/// Whether an ACL says what its mode says.
-fn minimal_answer(alloc: Global, acl: &Acl) -> Result<Vec<u8>, AllocError> {
-    Ok(format!(in alloc; "{}", acl.is_minimal())?.into_bytes())
 }
 
 /// The mode of an ACL with special bits.
 fn special_answer(alloc: Global, acl: &Acl, special: &[u8]) -> Result<Vec<u8>, AllocError> {
     match special {
         [digit @ b'0'..=b'7'] => {
-            Ok(format!(in alloc; "{:o}", acl.access.mode(*digit - b'0'))?.into_bytes())
+            shown(alloc, &format_args!("{:o}", acl.access.mode(*digit - b'0')))
         }
         _ => unread(alloc),
     }
@@ -182,16 +179,18 @@ fn base_answer(alloc: Global, mut acl: Acl, base: &[u8]) -> Result<Vec<u8>, Allo
     }
 }
 
+/// Whether an ACL says what its mode says, and the ACL.
+fn whole_answer(alloc: Global, acl: &Acl) -> Result<Vec<u8>, AllocError> {
+    let text = acl_answer(alloc, acl)?;
+    spaced(shown(alloc, &acl.is_minimal())?, &text)
+}
+
 /// Whether the ACL of a mode says what the mode says, and the ACL.
 fn of_mode_answer(alloc: Global, mode: &[u8]) -> Result<Vec<u8>, AllocError> {
-    let Some(mode) = octal_in(mode) else {
-        return unread(alloc);
-    };
-    let acl = Acl::of_mode(alloc, mode);
-    let mut answer_to = minimal_answer(alloc, &acl)?;
-    answer_to.push(b' ')?;
-    answer_to.extend_from_slice(&acl_answer(alloc, &acl)?)?;
-    Ok(answer_to)
+    match octal_in(mode) {
+        Some(mode) => whole_answer(alloc, &Acl::of_mode(alloc, mode)),
+        None => unread(alloc),
+    }
 }
 
 /// The entries of a list.
@@ -219,7 +218,7 @@ fn pushed(alloc: Global, entries: &[Entry]) -> Result<NamedList, AllocError> {
 fn list_answer(alloc: Global, text: &[u8]) -> Result<Vec<u8>, AllocError> {
     match parse_acl(alloc, text, &People) {
         Ok(line) => named_answer(alloc, &pushed(alloc, line.access.as_slice())?),
-        Err(fault) => fault_answer(alloc, fault),
+        Err(fault) => shown(alloc, &fault),
     }
 }
 
@@ -240,7 +239,7 @@ fn after_put(alloc: Global, mut list: NamedList, more: &[u8]) -> Result<Vec<u8>,
             put_all(&mut list, more.access.as_slice())?;
             named_answer(alloc, &list)
         }
-        Err(fault) => fault_answer(alloc, fault),
+        Err(fault) => shown(alloc, &fault),
     }
 }
 
@@ -248,7 +247,7 @@ fn after_put(alloc: Global, mut list: NamedList, more: &[u8]) -> Result<Vec<u8>,
 fn put_answer(alloc: Global, text: &[u8], more: &[u8]) -> Result<Vec<u8>, AllocError> {
     match parse_acl(alloc, text, &People) {
         Ok(line) => after_put(alloc, pushed(alloc, line.access.as_slice())?, more),
-        Err(fault) => fault_answer(alloc, fault),
+        Err(fault) => shown(alloc, &fault),
     }
 }
 

@@ -1,6 +1,6 @@
 //! Fields, escapes, specifiers, facts and messages.
 use super::given::{is_one_line, place_in};
-use crate::marks::{Arguments, named, new_messages, number_in, or_none, unread};
+use crate::marks::{Arguments, named, new_messages, number_in, or_none, shown, spaced, unread};
 use pv_text::{
     ExpandFault, FACT_LETTERS, Facts, FieldFault, Fields, Messages, Tool, expand, fields, unescape,
 };
@@ -56,23 +56,29 @@ fn text_answer(alloc: Global, fields: &Fields<'_>, number: usize) -> Result<Vec<
 /// Where the field of a number lies, and whether it is there.
 fn span_answer(alloc: Global, fields: &Fields<'_>, number: usize) -> Result<Vec<u8>, AllocError> {
     let is_there = fields.field(number).is_some();
-    Ok(match fields.span(number) {
-        Some((start, end)) => format!(in alloc; "{start} {end} {is_there}")?,
-        None => format!(in alloc; "none {is_there}")?,
+    match fields.span(number) {
+        Some((start, end)) => shown(alloc, &format_args!("{start} {end} {is_there}")),
+        None => shown(alloc, &format_args!("none {is_there}")),
     }
-    .into_bytes())
+}
+
+/// The place of a fault of a line, if it has one.
+fn place_of(fault: FieldFault) -> Option<usize> {
+    match fault {
+        FieldFault::BadByte(at)
+        | FieldFault::OpenQuote(at)
+        | FieldFault::GluedQuote(at)
+        | FieldFault::BadEscape(at) => Some(at),
+        FieldFault::TooFew => None,
+    }
 }
 
 /// A fault of a line by its name and its place.
 fn messages_fault(alloc: Global, fault: FieldFault) -> Result<Vec<u8>, AllocError> {
-    Ok(match fault {
-        FieldFault::BadByte(at)
-        | FieldFault::OpenQuote(at)
-        | FieldFault::GluedQuote(at)
-        | FieldFault::BadEscape(at) => format!(in alloc; "{fault} {at}")?,
-        FieldFault::TooFew => format!(in alloc; "{fault}")?,
+    match place_of(fault) {
+        Some(at) => shown(alloc, &format_args!("{fault} {at}")),
+        None => shown(alloc, &fault),
     }
-    .into_bytes())
 }
 
 /// The first fault of a line.
@@ -110,7 +116,7 @@ fn expanded_answer(
     let facts = facts_of(alloc, facts)?;
     match expand(alloc, text, &facts, tool_of(tool)) {
         Ok(text) => Ok(text),
-        Err(fault) => named(alloc, fault.name(), format!(in alloc; "{fault}")?.as_str()),
+        Err(fault) => named(alloc, fault.name(), &shown(alloc, &fault)?),
     }
 }
 
@@ -127,10 +133,7 @@ fn faults_answer(alloc: Global, text: &[u8]) -> Result<Vec<u8>, AllocError> {
     let facts = Facts::new(alloc);
     let first = fault_word(expand(alloc, text, &facts, Tool::Tmpfiles));
     let second = fault_word(expand(alloc, text, &facts, Tool::Sysusers));
-    let mut answer_to = Vec::from_slice(alloc, first)?;
-    answer_to.push(b' ')?;
-    answer_to.extend_from_slice(second)?;
-    Ok(answer_to)
+    spaced(Vec::from_slice(alloc, first)?, second)
 }
 
 /// The letters that have a fact.
@@ -157,14 +160,17 @@ fn messages_of(alloc: Global, lines: &[Vec<u8>]) -> Result<Messages, AllocError>
 }
 
 /// How many messages there are, and the one of a number.
+fn counted(alloc: Global, messages: &Messages, i: usize) -> Result<Vec<u8>, AllocError> {
+    let line = or_none(alloc, messages.line(i))?;
+    spaced(shown(alloc, &messages.len())?, &line)
+}
+
+/// How many messages of some lines there are, and the one of a number.
 fn message_answer(alloc: Global, i: &[u8], lines: &[Vec<u8>]) -> Result<Vec<u8>, AllocError> {
-    let Some(i) = number_in(i) else {
-        return unread(alloc);
-    };
-    let messages = messages_of(alloc, lines)?;
-    let mut answer_to = format!(in alloc; "{} ", messages.len())?.into_bytes();
-    answer_to.extend_from_slice(&or_none(alloc, messages.line(i as usize))?)?;
-    Ok(answer_to)
+    match number_in(i) {
+        Some(i) => counted(alloc, &messages_of(alloc, lines)?, i as usize),
+        None => unread(alloc),
+    }
 }
 
 /// The file of a copy of a place.

@@ -3,6 +3,7 @@ ghost use Rattle.std.specs.Prelude.{◌≡◌, true};
 ghost use Rattle.pv_text.specs.Lines.{is_line};
 
 use pv_acl::Names;
+use pv_path::{TreePath, child, is_name, parse_path};
 use pv_text::{OneLine, Place};
 use std::alloc::{AllocError, Global};
 
@@ -47,4 +48,25 @@ pub(crate) fn place_in(alloc: Global, file: &[u8], number: u32) -> Result<Place,
 {
     let file = OneLine::copy_of(alloc, file)?;
     Ok(Place { file, number })
+}
+
+/// The path of a name in a directory, where it is a name.
+fn child_in(alloc: Global, above: &TreePath, name: &[u8]) -> Result<Option<TreePath>, AllocError> {
+    if is_name(name) {
+        Ok(Some(child(alloc, above, name)?))
+    } else {
+        Ok(None)
+    }
+}
+
+/// The path of a name in the directory of a text.
+pub(crate) fn child_of(
+    alloc: Global,
+    above: &[u8],
+    name: &[u8],
+) -> Result<Option<TreePath>, AllocError> {
+    match parse_path(alloc, above) {
+        Ok(above) => child_in(alloc, &above, name),
+        Err(_) => Ok(None),
+    }
 }

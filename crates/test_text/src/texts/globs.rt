@@ -1,7 +1,8 @@
 //! Patterns and paths.
-use crate::marks::{Arguments, new_messages, number_in, unread};
-use pv_glob::{Pattern, PatternFault, literal, matches, matches_first, parse_pattern};
-use pv_path::{PathFault, TreePath, child, has_staging, is_name, parse_path};
+use super::given::child_of;
+use crate::marks::{Arguments, new_messages, number_in, shown, spaced, unread};
+use pv_glob::{Pattern, literal, matches, matches_first, parse_pattern};
+use pv_path::{PathFault, TreePath, has_staging, parse_path};
 use std::alloc::{AllocError, Global};
 
 /// What a call answers for arguments.
@@ -30,21 +31,16 @@ pub(crate) fn answer_to(
     }
 }
 
-/// A fault of a pattern by its name.
-fn pattern_fault(alloc: Global, fault: PatternFault) -> Result<Vec<u8>, AllocError> {
-    Ok(format!(in alloc; "{fault}")?.into_bytes())
-}
-
 /// A fault of a path by its name.
 fn path_fault(alloc: Global, fault: PathFault) -> Result<Vec<u8>, AllocError> {
-    Ok(format!(in alloc; "no path: {fault}")?.into_bytes())
+    shown(alloc, &format_args!("no path: {fault}"))
 }
 
 /// Whether a text is a pattern, or its fault.
 fn pattern_answer(alloc: Global, text: &[u8]) -> Result<Vec<u8>, AllocError> {
     match parse_pattern(alloc, text) {
         Ok(_) => new_messages(alloc, "ok"),
-        Err(fault) => pattern_fault(alloc, fault),
+        Err(fault) => shown(alloc, &fault),
     }
 }
 
@@ -65,7 +61,7 @@ fn path_answer(alloc: Global, pattern: &Pattern, path: &[u8]) -> Result<Vec<u8>,
 fn match_answer(alloc: Global, pattern: &[u8], path: &[u8]) -> Result<Vec<u8>, AllocError> {
     match parse_pattern(alloc, pattern) {
         Ok(pattern) => path_answer(alloc, &pattern, path),
-        Err(fault) => pattern_fault(alloc, fault),
+        Err(fault) => shown(alloc, &fault),
     }
 }
 
@@ -73,15 +69,7 @@ fn match_answer(alloc: Global, pattern: &[u8], path: &[u8]) -> Result<Vec<u8>, A
 fn copy_answer(alloc: Global, pattern: &[u8], path: &[u8]) -> Result<Vec<u8>, AllocError> {
     match parse_pattern(alloc, pattern) {
         Ok(pattern) => path_answer(alloc, &pattern.copy()?, path),
-        Err(fault) => pattern_fault(alloc, fault),
-    }
-}
-
-/// The path of a name in the directory of a text.
-fn child_of(alloc: Global, above: &[u8], name: &[u8]) -> Result<Option<TreePath>, AllocError> {
-    match parse_path(alloc, above) {
-        Ok(above) if is_name(name) => Ok(Some(child(alloc, &above, name)?)),
-        _ => Ok(None),
+        Err(fault) => shown(alloc, &fault),
     }
 }
 
@@ -97,7 +85,7 @@ fn child_answer(
     };
     match parse_pattern(alloc, pattern) {
         Ok(pattern) => answer(alloc, matches(&pattern, &path)),
-        Err(fault) => pattern_fault(alloc, fault),
+        Err(fault) => shown(alloc, &fault),
     }
 }
 
@@ -142,22 +130,21 @@ fn first_answer(
             b"copied" => text_front_answer(alloc, &pattern.copy()?, path, count),
             _ => text_front_answer(alloc, &pattern, path, count),
         },
-        Err(fault) => pattern_fault(alloc, fault),
+        Err(fault) => shown(alloc, &fault),
     }
 }
 
 /// The number of the expansions of a pattern, and whether it matches the path of a text.
 fn count_text(alloc: Global, pattern: &Pattern, path: &[u8]) -> Result<Vec<u8>, AllocError> {
-    let mut answer_to = format!(in alloc; "{} ", pattern.plains().len())?.into_bytes();
-    answer_to.extend_from_slice(&path_answer(alloc, pattern, path)?)?;
-    Ok(answer_to)
+    let answer = path_answer(alloc, pattern, path)?;
+    spaced(shown(alloc, &pattern.plains().len())?, &answer)
 }
 
 /// The number of the expansions of the pattern of a text, and whether it matches the path of another, or its fault.
 fn expansions_answer(alloc: Global, pattern: &[u8], path: &[u8]) -> Result<Vec<u8>, AllocError> {
     match parse_pattern(alloc, pattern) {
         Ok(pattern) => count_text(alloc, &pattern, path),
-        Err(fault) => pattern_fault(alloc, fault),
+        Err(fault) => shown(alloc, &fault),
     }
 }
 

@@ -1,11 +1,12 @@
 //! Lines of tmpfiles.d(5), and what each is read as.
 use super::given::{People, place_in};
-use crate::marks::{named, new_messages, unread};
+use crate::marks::{joined, named, new_messages, shown, spaced, unread};
 use pv_lines::{Argument, Line, LineFault, LineId, LineMode, LinePath, name_of, read_line};
 use pv_path::print_path;
 use pv_steps::{AttrList, LetterHow};
 use pv_text::Facts;
 use std::alloc::{AllocError, Global};
+use std::fmt::Display;
 use test_sheet::bytes_of;
 
 /// All types.
@@ -23,28 +24,27 @@ pub(crate) fn answer_to(alloc: Global, call: &str, words: &str) -> Result<Vec<u8
 }
 
 /// Reads a text as the seventh line of a file.
-fn read(alloc: Global, text: &[u8]) -> Result<Result<Line, LineFault>, AllocError> {
+fn read(alloc: Global, text: &[u8]) -> Result<Line, LineFault> {
     let place = place_in(alloc, b"/etc/tmpfiles.d/a.conf", 7)?;
-    Ok(read_line(alloc, text, place, &Facts::new(alloc), &People))
+    read_line(alloc, text, place, &Facts::new(alloc), &People)
 }
 
 /// The name of the fault of a text, or `ok`.
-fn answer(alloc: Global, text: &[u8]) -> Result<&'static [u8], AllocError> {
-    match read(alloc, text)? {
-        Ok(_) => Ok(b"ok"),
-        Err(fault) => Ok(name_of(fault)),
+fn answer(alloc: Global, text: &[u8]) -> &'static [u8] {
+    match read(alloc, text) {
+        Ok(_) => b"ok",
+        Err(fault) => name_of(fault),
     }
 }
 
 /// A fault by its name, which is also what is printed of it.
 fn fault_answer(alloc: Global, fault: LineFault) -> Result<Vec<u8>, AllocError> {
-    let printed = format!(in alloc; "{fault}")?;
-    named(alloc, name_of(fault), printed.as_str())
+    named(alloc, name_of(fault), &shown(alloc, &fault)?)
 }
 
 /// The fault of a text, or `ok`.
 fn first_answer(alloc: Global, text: &[u8]) -> Result<Vec<u8>, AllocError> {
-    match read(alloc, text)? {
+    match read(alloc, text) {
         Ok(_) => new_messages(alloc, "ok"),
         Err(fault) => fault_answer(alloc, fault),
     }
@@ -63,42 +63,52 @@ fn sample_argument(letter: u8) -> &'static [u8] {
     }
 }
 
-/// The answer to a line of a type, of what stands behind the letter, and of an argument.
-fn type_answer(
+/// Whether a line of a type, of what stands behind the letter, and of an argument has an answer.
+fn has_answer(
     alloc: Global,
     letter: u8,
     middle: &[u8],
     argument: &[u8],
-) -> Result<&'static [u8], AllocError> {
-    let mut text = Vec::new(alloc);
-    text.push(letter)?;
-    text.extend_from_slice(middle)?;
-    text.extend_from_slice(argument)?;
-    answer(alloc, &text)
+    wanted: &str,
+) -> Result<bool, AllocError> {
+    let text = joined(alloc, &joined(alloc, &[letter], middle)?, argument)?;
+    Ok(answer(alloc, &text) == wanted.as_bytes())
 }
 
 /// The types whose lines have an answer, with what stands behind the letter, and each with an argument that it takes or none.
-fn types_answer(alloc: Global, call: &str, words: &str) -> Result<Vec<u8>, AllocError> {
-    let Some((wanted, middle)) = words.split_once(' ') else {
-        return unread(alloc);
-    };
-    let middle = bytes_of(alloc, middle)?;
+fn types_with(
+    alloc: Global,
+    middle: &[u8],
+    has_argument: bool,
+    wanted: &str,
+) -> Result<Vec<u8>, AllocError> {
     let mut letters = Vec::new(alloc);
     for letter in TYPES {
-        let argument = match call {
-            "types" => sample_argument(*letter),
-            _ => b"",
+        let argument = if has_argument {
+            sample_argument(*letter)
+        } else {
+            b""
         };
-        if type_answer(alloc, *letter, &middle, argument)? == wanted.as_bytes() {
+        if has_answer(alloc, *letter, middle, argument, wanted)? {
             letters.push(*letter)?;
         }
     }
     Ok(letters)
 }
 
+/// The types whose lines have the answer that words begin with, with what stands behind the letter.
+fn types_answer(alloc: Global, call: &str, words: &str) -> Result<Vec<u8>, AllocError> {
+    match words.split_once(' ') {
+        Some((wanted, middle)) => {
+            types_with(alloc, &bytes_of(alloc, middle)?, call == "types", wanted)
+        }
+        None => unread(alloc),
+    }
+}
+
 /// The number of the place of the line of a text, its file, and the text of its path, or the name of its fault.
 fn place_found(alloc: Global, text: &[u8]) -> Result<Vec<u8>, AllocError> {
-    match read(alloc, text)? {
+    match read(alloc, text) {
         Ok(line) => place_of(alloc, &line),
         Err(fault) => fault_answer(alloc, fault),
     }
@@ -106,16 +116,16 @@ fn place_found(alloc: Global, text: &[u8]) -> Result<Vec<u8>, AllocError> {
 
 /// The number of the place of a line, its file, and the text of its path.
 fn place_of(alloc: Global, line: &Line) -> Result<Vec<u8>, AllocError> {
-    let mut answer_to = format!(in alloc; "{} ", line.place.number)?.into_bytes();
-    answer_to.extend_from_slice(line.place.file.as_slice())?;
-    answer_to.push(b' ')?;
-    answer_to.extend_from_slice(line.path_text.as_slice())?;
-    Ok(answer_to)
+    let answer = spaced(
+        shown(alloc, &line.place.number)?,
+        line.place.file.as_slice(),
+    )?;
+    spaced(answer, line.path_text.as_slice())
 }
 
 /// What a text is read as in short, or the name of its fault.
 fn read_answer(alloc: Global, text: &[u8]) -> Result<Vec<u8>, AllocError> {
-    match read(alloc, text)? {
+    match read(alloc, text) {
         Ok(line) => line_answer(alloc, &line),
         Err(fault) => fault_answer(alloc, fault),
     }
@@ -159,7 +169,7 @@ fn add_named(text: &mut Vec<u8>, alloc: Global, line: &Line) -> Result<(), Alloc
     match &line.path {
         LinePath::Literal(path) => text.extend_from_slice(&print_path(alloc, path)?),
         LinePath::Glob(pattern) => {
-            add(text, &format!(in alloc; "{}:", pattern.plains().len())?)?;
+            add_shown(text, alloc, &format_args!("{}:", pattern.plains().len()))?;
             text.extend_from_slice(line.path_text.as_slice())
         }
     }
@@ -170,9 +180,10 @@ fn add_mode(text: &mut Vec<u8>, alloc: Global, mode: Option<LineMode>) -> Result
     match mode {
         Some(mode) => {
             let (masked, new_only) = (mode.masked, mode.new_only);
-            add(
+            add_shown(
                 text,
-                &format!(in alloc; " mode {:o} {masked} {new_only}", mode.value)?,
+                alloc,
+                &format_args!(" mode {:o} {masked} {new_only}", mode.value),
             )
         }
         None => Ok(()),
@@ -189,7 +200,7 @@ fn add_owner(
     match owner {
         Some(owner) => {
             let (id, new_only) = (owner.id, owner.new_only);
-            add(text, &format!(in alloc; " {what} {id} {new_only}")?)
+            add_shown(text, alloc, &format_args!(" {what} {id} {new_only}"))
         }
         None => Ok(()),
     }
@@ -200,10 +211,15 @@ fn add_age(text: &mut Vec<u8>, alloc: Global, line: &Line) -> Result<(), AllocEr
     match line.age {
         Some(age) => {
             let (micros, spare_first) = (age.micros, age.spare_first);
-            add(text, &format!(in alloc; " age {micros} {spare_first}")?)
+            add_shown(text, alloc, &format_args!(" age {micros} {spare_first}"))
         }
         None => Ok(()),
     }
+}
+
+/// Adds what is printed of a value.
+fn add_shown<T: Display>(text: &mut Vec<u8>, alloc: Global, value: &T) -> Result<(), AllocError> {
+    text.extend_from_slice(&shown(alloc, value)?)
 }
 
 /// Adds a text.
@@ -236,11 +252,11 @@ fn add_argument(text: &mut Vec<u8>, alloc: Global, argument: &Argument) -> Resul
         Argument::Target(target) => add_bytes(text, " target ", target.as_slice()),
         Argument::Source(path) => add_bytes(text, " source ", &print_path(alloc, path)?),
         Argument::Device { major, minor } => {
-            add(text, &format!(in alloc; " device {major}:{minor}")?)
+            add_shown(text, alloc, &format_args!(" device {major}:{minor}"))
         }
         Argument::Entries(entries) => {
             let (access, default) = (entries.access.len(), entries.default_part.len());
-            add(text, &format!(in alloc; " entries {access} {default}")?)
+            add_shown(text, alloc, &format_args!(" entries {access} {default}"))
         }
         Argument::Attrs(attrs) => add_attrs(text, attrs),
         Argument::Letters { how, letters } => {

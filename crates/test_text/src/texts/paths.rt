@@ -1,8 +1,9 @@
 //! Paths, names and printed bytes.
-use crate::marks::{Arguments, new_messages, unread};
+use super::given::child_of;
+use crate::marks::{Arguments, joined, new_messages, shown, spaced, unread};
 use pv_path::{
-    Bytes, PathFault, TreePath, add_printed_but, child, has_staging, is_name, is_prefix,
-    is_staging, parent, parse_path, print_bytes, print_path, rebase, staging,
+    Bytes, TreePath, add_printed_but, has_staging, is_name, is_prefix, is_staging, parent,
+    parse_path, print_bytes, print_path, rebase, staging,
 };
 use std::alloc::{AllocError, Global};
 use std::cmp::Ordering;
@@ -19,7 +20,7 @@ pub(crate) fn answer_to(
         "bytes" => bytes_answer(alloc, arguments.at(0)),
         "printed" => printed_answer(alloc, arguments.at(0), arguments.at(1), arguments.at(2)),
         "copied" => copy_answer(alloc, arguments.at(0), arguments.at(1)),
-        "staging-name" => staging_name_answer(alloc, arguments.at(0)),
+        "staging-name" => shown(alloc, &is_staging(arguments.at(0))),
         _ => relation_answer(alloc, call, arguments),
     }
 }
@@ -41,16 +42,11 @@ fn relation_answer(
     }
 }
 
-/// A fault of a path by its name.
-fn fault_answer(alloc: Global, fault: PathFault) -> Result<Vec<u8>, AllocError> {
-    Ok(format!(in alloc; "{fault}")?.into_bytes())
-}
-
 /// How the path of a text is printed, or its fault.
 fn path_answer(alloc: Global, text: &[u8]) -> Result<Vec<u8>, AllocError> {
     match parse_path(alloc, text) {
         Ok(path) => print_path(alloc, &path),
-        Err(fault) => fault_answer(alloc, fault),
+        Err(fault) => shown(alloc, &fault),
     }
 }
 
@@ -59,24 +55,23 @@ fn name_word(bytes: &[u8]) -> &'static str {
     if is_name(bytes) { "name" } else { "no name" }
 }
 
+/// The fault of the path of a text, or `ok`.
+fn fault_word(alloc: Global, text: &[u8]) -> Result<Vec<u8>, AllocError> {
+    match parse_path(alloc, text) {
+        Ok(_) => new_messages(alloc, "ok"),
+        Err(fault) => shown(alloc, &fault),
+    }
+}
+
 /// Whether bytes are a name, and the fault of the path with this one name.
 fn name_answer(alloc: Global, name: &[u8]) -> Result<Vec<u8>, AllocError> {
-    let mut text = Vec::from_slice(alloc, b"/")?;
-    text.extend_from_slice(name)?;
-    let word = name_word(name);
-    Ok(match parse_path(alloc, &text) {
-        Ok(_) => format!(in alloc; "{word} ok")?,
-        Err(fault) => format!(in alloc; "{word} {fault}")?,
-    }
-    .into_bytes())
+    let fault = fault_word(alloc, &joined(alloc, b"/", name)?)?;
+    spaced(new_messages(alloc, name_word(name))?, &fault)
 }
 
 /// How bytes are printed, and whether they are a name.
 fn bytes_answer(alloc: Global, bytes: &[u8]) -> Result<Vec<u8>, AllocError> {
-    let mut answer_to = print_bytes(alloc, bytes)?;
-    answer_to.push(b' ')?;
-    answer_to.extend_from_slice(name_word(bytes).as_bytes())?;
-    Ok(answer_to)
+    spaced(print_bytes(alloc, bytes)?, name_word(bytes).as_bytes())
 }
 
 /// A text with bytes printed after it, some more of them escaped.
@@ -91,37 +86,32 @@ fn printed_answer(
     Ok(text)
 }
 
+/// Whether a copy of bytes equals them.
+fn is_copied(bytes: &Bytes) -> Result<bool, AllocError> {
+    Ok(bytes.copy()? == *bytes)
+}
+
 /// Whether a copy of bytes equals them, and whether they are those of another text.
 fn copy_answer(alloc: Global, bytes: &[u8], other: &[u8]) -> Result<Vec<u8>, AllocError> {
     let bytes = Bytes::copy_of(alloc, bytes)?;
-    let equal = bytes.copy()? == bytes;
+    let equal = is_copied(&bytes)?;
     let same = bytes.is_same(&Bytes::copy_of(alloc, other)?);
-    Ok(format!(in alloc; "{equal} {same}")?.into_bytes())
+    shown(alloc, &format_args!("{equal} {same}"))
 }
 
-/// Whether a name is a staging name.
-fn staging_name_answer(alloc: Global, name: &[u8]) -> Result<Vec<u8>, AllocError> {
-    let is_one = is_staging(name);
-    Ok(format!(in alloc; "{is_one}")?.into_bytes())
-}
-
-/// The parent of the path of a text, printed.
-fn parent_answer(alloc: Global, path: &[u8]) -> Result<Vec<u8>, AllocError> {
-    let path = match parse_path(alloc, path) {
-        Ok(path) => path,
-        Err(fault) => return fault_answer(alloc, fault),
-    };
-    match parent(alloc, &path)? {
+/// The parent of a path, printed.
+fn above_answer(alloc: Global, path: &TreePath) -> Result<Vec<u8>, AllocError> {
+    match parent(alloc, path)? {
         Some(above) => print_path(alloc, &above),
         None => new_messages(alloc, "none"),
     }
 }
 
-/// The path of a name in the directory of a text.
-fn child_of(alloc: Global, above: &[u8], name: &[u8]) -> Result<Option<TreePath>, AllocError> {
-    match parse_path(alloc, above) {
-        Ok(above) if is_name(name) => Ok(Some(child(alloc, &above, name)?)),
-        _ => Ok(None),
+/// The parent of the path of a text, printed.
+fn parent_answer(alloc: Global, path: &[u8]) -> Result<Vec<u8>, AllocError> {
+    match parse_path(alloc, path) {
+        Ok(path) => above_answer(alloc, &path),
+        Err(fault) => shown(alloc, &fault),
     }
 }
 
@@ -136,7 +126,7 @@ fn child_answer(alloc: Global, above: &[u8], name: &[u8]) -> Result<Vec<u8>, All
 /// Whether the path of a name in the directory of a text has a staging name.
 fn has_staging_answer(alloc: Global, above: &[u8], name: &[u8]) -> Result<Vec<u8>, AllocError> {
     match child_of(alloc, above, name)? {
-        Some(path) => Ok(format!(in alloc; "{}", has_staging(&path))?.into_bytes()),
+        Some(path) => shown(alloc, &has_staging(&path)),
         None => new_messages(alloc, "no path or no name"),
     }
 }
@@ -153,7 +143,7 @@ fn staged_answer(alloc: Global, path: &TreePath) -> Result<Vec<u8>, AllocError> 
 fn staging_answer(alloc: Global, path: &[u8]) -> Result<Vec<u8>, AllocError> {
     match parse_path(alloc, path) {
         Ok(path) => staged_answer(alloc, &path),
-        Err(fault) => fault_answer(alloc, fault),
+        Err(fault) => shown(alloc, &fault),
     }
 }
 
@@ -170,7 +160,7 @@ fn order_word(order: Ordering) -> &'static str {
 fn relation(alloc: Global, a: &TreePath, b: &TreePath) -> Result<Vec<u8>, AllocError> {
     let prefix = is_prefix(a, b);
     let order = order_word(a.order(b));
-    Ok(format!(in alloc; "{prefix} {order}")?.into_bytes())
+    shown(alloc, &format_args!("{prefix} {order}"))
 }
 
 /// Whether the path of a text is a prefix of that of another, and how it stands to it.
@@ -180,7 +170,7 @@ fn related_answer(alloc: Global, a: &[u8], b: &[u8]) -> Result<Vec<u8>, AllocErr
     };
     match parse_path(alloc, b) {
         Ok(b) => relation(alloc, &a, &b),
-        Err(fault) => fault_answer(alloc, fault),
+        Err(fault) => shown(alloc, &fault),
     }
 }
 
@@ -196,7 +186,7 @@ fn moved_answer(
     }
     match parse_path(alloc, to) {
         Ok(to) => print_path(alloc, &rebase(alloc, path, from, &to)?),
-        Err(fault) => fault_answer(alloc, fault),
+        Err(fault) => shown(alloc, &fault),
     }
 }
 
@@ -212,6 +202,6 @@ fn rebased_answer(
     };
     match parse_path(alloc, from) {
         Ok(from) => moved_answer(alloc, &path, &from, to),
-        Err(fault) => fault_answer(alloc, fault),
+        Err(fault) => shown(alloc, &fault),
     }
 }

@@ -1,6 +1,6 @@
 //! Lines of sysusers.d(5).
 use super::given::place_in;
-use crate::marks::{named, new_messages, unread};
+use crate::marks::{named, new_messages, shown, unread};
 use pv_requests::{Primary, Request, RequestFault, UserId, name_of, read_request};
 use pv_text::Facts;
 use std::alloc::{AllocError, Global};
@@ -10,21 +10,21 @@ use test_sheet::bytes_of;
 pub(crate) fn answer_to(alloc: Global, call: &str, words: &str) -> Result<Vec<u8>, AllocError> {
     let line = bytes_of(alloc, words)?;
     match call {
-        "line" => read_answer(alloc, read(alloc, &line)?),
+        "line" => read_answer(alloc, read(alloc, &line)),
         _ => unread(alloc),
     }
 }
 
 /// What a line is read as, as the first of a file.
-fn read(alloc: Global, line: &[u8]) -> Result<Result<Request, RequestFault>, AllocError> {
+fn read(alloc: Global, line: &[u8]) -> Result<Request, RequestFault> {
     let place = place_in(alloc, b"A", 1)?;
-    Ok(read_request(alloc, line, place, &Facts::new(alloc)))
+    read_request(alloc, line, place, &Facts::new(alloc))
 }
 
 /// A number, or `-`.
 fn id_word(alloc: Global, id: Option<u32>) -> Result<String, AllocError> {
     match id {
-        Some(id) => format!(in alloc; "{id}"),
+        Some(id) => id.to_string(alloc),
         None => "-".to_string(alloc),
     }
 }
@@ -45,7 +45,7 @@ fn parts_of(id: &UserId) -> (Option<u32>, Option<u32>, bool) {
 fn user_answer(alloc: Global, id: &UserId, locked: bool) -> Result<Vec<u8>, AllocError> {
     let (uid, gid, named) = parts_of(id);
     let (uid, gid) = (id_word(alloc, uid)?, id_word(alloc, gid)?);
-    Ok(format!(in alloc; "{locked} {uid} {gid} {named}")?.into_bytes())
+    shown(alloc, &format_args!("{locked} {uid} {gid} {named}"))
 }
 
 /// The parts of a u line.
@@ -66,6 +66,5 @@ fn read_answer(alloc: Global, read: Result<Request, RequestFault>) -> Result<Vec
 
 /// A fault by its name, which is also what is printed of it.
 fn fault_answer(alloc: Global, fault: RequestFault) -> Result<Vec<u8>, AllocError> {
-    let printed = format!(in alloc; "{fault}")?;
-    named(alloc, name_of(fault), printed.as_str())
+    named(alloc, name_of(fault), &shown(alloc, &fault)?)
 }
