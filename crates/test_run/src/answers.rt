@@ -1,4 +1,5 @@
 //! What a row gives.
+use crate::folder_answers::in_folder;
 use crate::readings::{files, lines};
 use crate::runs::{Broken, run, run_with};
 use crate::stops::{cuts, reruns, stops, takings, twice};
@@ -54,6 +55,19 @@ fn rerun(alloc: Global, words: &str, input: &[u8], wanted: &str) -> Result<Vec<u
     )
 }
 
+/// What a row of a run over an image gives: its messages, the output, and after `= ` the end.
+fn over_image(alloc: Global, sheet: &Sheet<'_>, row: &Row<'_>) -> Result<Vec<u8>, AllocError> {
+    let input = input(alloc, sheet, row)?;
+    let input = input.as_bytes();
+    match row.call {
+        "reruns" => rerun(alloc, row.words, input, &output(alloc, sheet, row)?),
+        "run" => ran(alloc, row.words, input, broken(alloc, row)?),
+        "files" => files(alloc, row.words, input),
+        "lines" => lines(alloc, row.words, input),
+        _ => ended(Vec::new(alloc), answer(alloc, row, input)?.as_bytes()),
+    }
+}
+
 /// What carries out runs and readings.
 pub(crate) struct Runs;
 
@@ -64,14 +78,11 @@ impl Calls for Runs {
         sheet: &Sheet<'_>,
         row: &Row<'_>,
     ) -> Result<Vec<u8>, AllocError> {
-        let input = input(alloc, sheet, row)?;
-        let input = input.as_bytes();
         match row.call {
-            "reruns" => rerun(alloc, row.words, input, &output(alloc, sheet, row)?),
-            "run" => ran(alloc, row.words, input, broken(alloc, row)?),
-            "files" => files(alloc, row.words, input),
-            "lines" => lines(alloc, row.words, input),
-            _ => ended(Vec::new(alloc), answer(alloc, row, input)?.as_bytes()),
+            "folder" | "folder-stops" | "folder-cuts" | "failures" | "left" => {
+                in_folder(alloc, sheet, row)
+            }
+            _ => over_image(alloc, sheet, row),
         }
     }
 }

@@ -2,6 +2,9 @@
 #![tactic(auto)]
 
 mod answers;
+mod folder_answers;
+mod folders;
+mod hosts;
 mod readings;
 mod runs;
 mod stops;

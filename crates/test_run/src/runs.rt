@@ -5,7 +5,7 @@ use std::alloc::{AllocError, Global};
 use test_sheet::words_of;
 
 /// The moment of the runs, in microseconds since 1970.
-const NOW: u64 = 1_000_000_000_000;
+pub(crate) const NOW: u64 = 1_000_000_000_000;
 
 /// More than a run writes.
 const ROOM: usize = 16_777_216;

@@ -2,8 +2,8 @@
 use crate::runs::{run, stopped};
 use std::alloc::{AllocError, Global};
 
-/// More steps than a run of a row takes.
-const MOST: u32 = 64;
+/// More steps and calls of a host than a run of a row takes.
+pub(crate) const MOST: u32 = 64;
 
 /// Adds the line of an object without its timestamps.
 fn add_object(text: &mut Vec<u8>, line: &[u8]) -> Result<(), AllocError> {

@@ -1,15 +1,12 @@
 //! Runs on the folder of a host, whole, stopped and broken.
 use crate::hosts::{Parts, folder_text, host_of, image_of, parts_of};
+use crate::runs::NOW;
+use crate::stops::MOST;
 use provision_run::{provision_all, status};
+use pv_folder::MemHost;
 use pv_io::{MemSink, MemSource};
 use std::alloc::{AllocError, Global};
 use test_sheet::words_of;
-
-/// The moment of the runs, in microseconds since 1970.
-const NOW: u64 = 1_000_000_000_000;
-
-/// More calls and steps than a run of a row takes.
-const MOST: u32 = 64;
 
 /// A run on a host: what it wrote, its status, and the image of what the host then holds.
 #[derive(Drop)]
@@ -19,6 +16,15 @@ pub(crate) struct Ran {
     pub(crate) image: Vec<u8>,
 }
 
+/// Runs these words on a host: what is written, and the status.
+fn run_on(alloc: Global, words: &str, host: &mut MemHost) -> Result<(Vec<u8>, u8), AllocError> {
+    let words = words_of(alloc, words)?;
+    let mut sink = MemSink::new(alloc, 65_536, 65_536, Vec::new(alloc))?;
+    let mut source = MemSource::new(Vec::new(alloc), Vec::new(alloc));
+    let outcome = provision_all(alloc, &words, NOW, &mut source, &mut sink, host);
+    Ok((Vec::from_slice(alloc, sink.written())?, status(&outcome)))
+}
+
 /// A run with these words over the host of an image, which fails at these calls.
 pub(crate) fn run(
     alloc: Global,
@@ -26,17 +32,15 @@ pub(crate) fn run(
     image: &[u8],
     fails: Vec<u64>,
 ) -> Result<Option<Ran>, AllocError> {
-    let words = words_of(alloc, words)?;
     let Some(mut host) = host_of(alloc, image, fails)? else {
         return Ok(None);
     };
-    let mut source = MemSource::new(Vec::new(alloc), Vec::new(alloc));
-    let mut sink = MemSink::new(alloc, 65_536, 65_536, Vec::new(alloc))?;
-    let outcome = provision_all(alloc, &words, NOW, &mut source, &mut sink, &mut host);
+    let (new_messages, status) = run_on(alloc, words, &mut host)?;
+    let image = image_of(alloc, host.content())?;
     Ok(Some(Ran {
-        new_messages: Vec::from_slice(alloc, sink.written())?,
-        status: status(&outcome),
-        image: image_of(alloc, host.content())?,
+        new_messages,
+        status,
+        image,
     }))
 }
 
@@ -148,44 +152,62 @@ fn same_parts(one: &Parts, other: &Parts) -> bool {
     one.manifest.as_str() == other.manifest.as_str() && one.tree.as_str() == other.tree.as_str()
 }
 
+/// The folders that one after a failure can be like: before the run, after each stop, and after the complete run.
+#[derive(Drop)]
+struct Known {
+    before: Parts,
+    stopped: Vec<Parts>,
+    whole: Parts,
+}
+
+/// The folders that one can be like, if the text is an image.
+fn known_of(alloc: Global, words: &str, image: &[u8]) -> Result<Option<Known>, AllocError> {
+    let Some(whole) = run(alloc, words, image, Vec::new(alloc))? else {
+        return Ok(None);
+    };
+    let whole = parts_of(alloc, &whole.image)?;
+    let before = parts_of(alloc, image)?;
+    let stopped = stopped_parts(alloc, words, image)?;
+    Ok(Some(Known {
+        before,
+        stopped,
+        whole,
+    }))
+}
+
 /// What a folder is as: before the run, after a stop, or after the complete run except for the manifest, which is the old one.
-fn likeness(
-    alloc: Global,
-    half: &Parts,
-    before: &Parts,
-    stopped: &[Parts],
-    whole: &Parts,
-) -> Result<String, AllocError> {
-    if same_parts(half, before) {
+fn likeness(alloc: Global, half: &Parts, known: &Known) -> Result<String, AllocError> {
+    if same_parts(half, &known.before) {
         return "as before".to_string(alloc);
     }
-    for (steps, stop) in stopped.iter().enumerate() {
-        if same_parts(half, stop) {
-            return format!(in alloc; "as after {steps} steps");
-        }
+    if let Some(steps) = known.stopped.iter().position(|stop| same_parts(half, stop)) {
+        return format!(in alloc; "as after {steps} steps");
     }
-    let unclosed = half.manifest.as_str() == before.manifest.as_str();
-    if unclosed && half.tree.as_str() == whole.tree.as_str() {
+    let unclosed = half.manifest.as_str() == known.before.manifest.as_str();
+    if unclosed && half.tree.as_str() == known.whole.tree.as_str() {
         return "all but the manifest".to_string(alloc);
     }
     "other".to_string(alloc)
 }
 
-/// What the folder is as after each call of the host that fails: from which call on it is so, and how many calls there are.
-pub(crate) fn left(alloc: Global, words: &str, image: &[u8]) -> Result<String, AllocError> {
-    let before = parts_of(alloc, image)?;
-    let stopped = stopped_parts(alloc, words, image)?;
-    let Some(whole) = run(alloc, words, image, Vec::new(alloc))? else {
-        return "no image".to_string(alloc);
-    };
-    let whole = parts_of(alloc, &whole.image)?;
+/// What the folder of an image is as.
+fn likeness_of(alloc: Global, image: &[u8], known: &Known) -> Result<String, AllocError> {
+    likeness(alloc, &parts_of(alloc, image)?, known)
+}
+
+/// What the folder is as after each call of the host that fails, beside folders that it can be like.
+fn left_beside(
+    alloc: Global,
+    words: &str,
+    image: &[u8],
+    known: &Known,
+) -> Result<String, AllocError> {
     let mut text = String::new(alloc);
     let mut last = String::new(alloc);
     for call in 0..MOST {
         match run(alloc, words, image, failing(alloc, call, false)?)? {
             Some(half) if half.status == 77 => {
-                let half = parts_of(alloc, &half.image)?;
-                let is = likeness(alloc, &half, &before, stopped.as_slice(), &whole)?;
+                let is = likeness_of(alloc, &half.image, known)?;
                 if is.as_str() != last.as_str() {
                     text.push_str(&format!(in alloc; "{call} {is}, ")?)?;
                     last = is;
@@ -195,4 +217,12 @@ pub(crate) fn left(alloc: Global, words: &str, image: &[u8]) -> Result<String, A
         }
     }
     format!(in alloc; "too many calls")
+}
+
+/// What the folder is as after each call of the host that fails: from which call on it is so, and how many calls there are.
+pub(crate) fn left(alloc: Global, words: &str, image: &[u8]) -> Result<String, AllocError> {
+    match known_of(alloc, words, image)? {
+        Some(known) => left_beside(alloc, words, image, &known),
+        None => "no image".to_string(alloc),
+    }
 }

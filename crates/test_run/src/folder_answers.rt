@@ -1,8 +1,8 @@
-//! What a row gives.
+//! What a row of a run on a folder gives.
+use crate::folders::{failures, left, run, stops};
 use crate::hosts::{folder_text, host_image};
-use crate::runs::{failures, left, run, stops};
 use std::alloc::{AllocError, Global};
-use test_sheet::{Calls, Row, Sheet, ended};
+use test_sheet::{Row, Sheet, ended};
 
 /// The calls of the host that a row breaks.
 fn broken(alloc: Global, row: &Row<'_>) -> Result<Vec<u64>, AllocError> {
@@ -26,26 +26,20 @@ fn ran(alloc: Global, row: &Row<'_>, image: &[u8]) -> Result<Vec<u8>, AllocError
     ended(text, format!(in alloc; "{}", ran.status)?.as_bytes())
 }
 
-/// What carries out runs on a folder.
-pub(crate) struct Runs;
-
-impl Calls for Runs {
-    fn found(
-        &self,
-        alloc: Global,
-        sheet: &Sheet<'_>,
-        row: &Row<'_>,
-    ) -> Result<Vec<u8>, AllocError> {
-        let image = host_image(alloc, sheet, row)?;
-        let image = image.as_bytes();
-        let answer = match row.call {
-            "folder" => return ran(alloc, row, image),
-            "failures" => failures(alloc, row.words, image, false)?,
-            "cuts" => failures(alloc, row.words, image, true)?,
-            "stops" => stops(alloc, row.words, image)?,
-            "left" => left(alloc, row.words, image)?,
-            _ => "no such call".to_string(alloc)?,
-        };
-        ended(Vec::new(alloc), answer.as_bytes())
-    }
+/// What a row of a run on a folder gives: its messages, the folder, and after `= ` the end.
+pub(crate) fn in_folder(
+    alloc: Global,
+    sheet: &Sheet<'_>,
+    row: &Row<'_>,
+) -> Result<Vec<u8>, AllocError> {
+    let image = host_image(alloc, sheet, row)?;
+    let image = image.as_bytes();
+    let answer = match row.call {
+        "folder" => return ran(alloc, row, image),
+        "failures" => failures(alloc, row.words, image, false)?,
+        "folder-cuts" => failures(alloc, row.words, image, true)?,
+        "left" => left(alloc, row.words, image)?,
+        _ => stops(alloc, row.words, image)?,
+    };
+    ended(Vec::new(alloc), answer.as_bytes())
 }

@@ -7,65 +7,107 @@ use pv_tree::MemTree;
 use std::alloc::{AllocError, Global};
 use test_sheet::{Row, Sheet, input};
 
-/// A directory of the host.
-fn directory(alloc: Global, path: &str) -> Result<String, AllocError> {
-    format!(in alloc; "d {path} 0755 0 0 0,0,0,0 - - - -\n")
+/// Adds a line with its end.
+fn add_line(text: &mut String, line: &str) -> Result<(), AllocError> {
+    text.push_str(line)?;
+    text.push('\n')
 }
 
-/// The lines behind this mark, each with its end.
-fn lines_of(alloc: Global, row: &Row<'_>, mark: &str) -> Result<String, AllocError> {
-    let mut text = String::new(alloc);
-    for line in row.marked(alloc, mark)? {
-        text.push_str(line)?;
-        text.push('\n')?;
-    }
-    Ok(text)
+/// Adds a directory of the host.
+fn add_directory(text: &mut String, path: &str) -> Result<(), AllocError> {
+    text.push_str("d ")?;
+    text.push_str(path)?;
+    add_line(text, " 0755 0 0 0,0,0,0 - - - -")
 }
 
-/// The manifest of a row, if it has one: the lines behind `manifest `.
-fn manifest(alloc: Global, row: &Row<'_>) -> Result<String, AllocError> {
-    let lines = lines_of(alloc, row, "manifest ")?;
-    if lines.is_empty() {
-        return Ok(lines);
+/// Adds the lines behind this mark.
+fn add_marked(
+    alloc: Global,
+    text: &mut String,
+    row: &Row<'_>,
+    mark: &str,
+) -> Result<(), AllocError> {
+    let lines = row.marked(alloc, mark)?;
+    for line in lines.as_slice() {
+        add_line(text, line)?;
     }
+    Ok(())
+}
+
+/// Adds a manifest with these lines.
+fn add_manifest(alloc: Global, text: &mut String, lines: &str) -> Result<(), AllocError> {
     let content = STANDARD.encode(alloc, lines.as_bytes())?;
-    format!(in alloc; "f /r/manifest 0644 0 0 0,0,0,0 - - - {content}\n")
+    text.push_str("f /r/manifest 0644 0 0 0,0,0,0 - - - ")?;
+    add_line(text, &content)
 }
 
-/// The line of an object of the tree as one of the host, below `/r/tree`.
-fn below(alloc: Global, line: &str) -> Result<String, AllocError> {
+/// Adds the manifest of a row, if it has one: the lines behind `manifest `.
+fn add_manifest_of(alloc: Global, text: &mut String, row: &Row<'_>) -> Result<(), AllocError> {
+    let mut lines = String::new(alloc);
+    add_marked(alloc, &mut lines, row, "manifest ")?;
+    if lines.is_empty() {
+        return Ok(());
+    }
+    add_manifest(alloc, text, &lines)
+}
+
+/// Adds the line of an object of the tree as one of the host, below `/r/tree`.
+fn add_below(text: &mut String, line: &str) -> Result<(), AllocError> {
     let (kind, rest) = line.split_once(' ').unwrap_or((line, ""));
     let (path, rest) = rest.split_once(' ').unwrap_or((rest, ""));
     let path = if path == "/" { "" } else { path };
-    format!(in alloc; "{kind} /r/tree{path} {rest}\n")
+    for piece in [kind, " /r/tree", path, " "] {
+        text.push_str(piece)?;
+    }
+    add_line(text, rest)
 }
 
-/// The lines of the host's objects below `/r/tree`, of the image of a tree.
-fn tree(alloc: Global, image: &str) -> Result<String, AllocError> {
-    let mut lines = String::new(alloc);
+/// Adds the host's objects below `/r/tree`, by the image of a tree.
+fn add_tree(text: &mut String, image: &str) -> Result<(), AllocError> {
     for line in image.lines() {
         if line != "tree-image 2" && line != "end" {
-            lines.push_str(&below(alloc, line)?)?;
+            add_below(text, line)?;
         }
     }
-    Ok(lines)
+    Ok(())
 }
 
-/// The image of the host of a row: `/r` with the manifest, the objects behind `host `, and the tree of the objects behind `<`.
-/// A row with `no folder` has a root alone.
+/// Adds `/r` of a row: the manifest, the objects behind `host `, and the tree of the objects behind `<`.
+fn add_folder(
+    alloc: Global,
+    text: &mut String,
+    sheet: &Sheet<'_>,
+    row: &Row<'_>,
+) -> Result<(), AllocError> {
+    add_directory(text, "/r")?;
+    add_manifest_of(alloc, text, row)?;
+    add_marked(alloc, text, row, "host ")?;
+    let image = input(alloc, sheet, row)?;
+    add_tree(text, &image)
+}
+
+/// Adds the objects of the host of a row: its root, and `/r` unless the row has `no folder`.
+fn add_host(
+    alloc: Global,
+    text: &mut String,
+    sheet: &Sheet<'_>,
+    row: &Row<'_>,
+) -> Result<(), AllocError> {
+    add_directory(text, "/")?;
+    if row.marked(alloc, "no folder")?.is_empty() {
+        add_folder(alloc, text, sheet, row)?;
+    }
+    Ok(())
+}
+
+/// The image of the host of a row.
 pub(crate) fn host_image(
     alloc: Global,
     sheet: &Sheet<'_>,
     row: &Row<'_>,
 ) -> Result<String, AllocError> {
     let mut text = "tree-image 2\n".to_string(alloc)?;
-    text.push_str(&directory(alloc, "/")?)?;
-    if row.marked(alloc, "no folder")?.is_empty() {
-        text.push_str(&directory(alloc, "/r")?)?;
-        text.push_str(&manifest(alloc, row)?)?;
-        text.push_str(&lines_of(alloc, row, "host ")?)?;
-        text.push_str(&tree(alloc, &input(alloc, sheet, row)?)?)?;
-    }
+    add_host(alloc, &mut text, sheet, row)?;
     text.push_str("end\n")?;
     Ok(text)
 }
