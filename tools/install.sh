@@ -22,7 +22,7 @@ build() {
   [ ! -f "$program" ] || return 0
   command -v rt > /dev/null || return 0
   cat >&2 << 'END'
-install: the program is not built yet, so it is proved and built now. The first time this takes about two hours of
+install: the program is not built yet, so it is proved and built now. The first time this takes one to two hours of
 install: processor time, up to an hour on four cores, with 8 GB of memory and 10 GB of disk. What is proved is kept.
 install: If you have a program that is built already: tools/install.sh PROGRAM
 END
